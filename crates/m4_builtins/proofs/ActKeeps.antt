@@ -1,4 +1,4 @@
--- ActKeeps: a call leaves a state in order in order, and pushes definitions in order.
+-- ActKeeps: a call leaves a state that was in order in order, and pushes definitions in order.
 use Rattle.std.proofs.Common.{◌≡◌, ℕ, Bool, true, false, List, [], ◌∷◌, Option, Some, None, length, refl, rules}
 use Rattle.std.specs.Prelude.{nat_lt, nat_le, ℤ, pos, negsuc, filter_map, slice_get, if◌then◌else◌}
 use Rattle.std.specs.List.{AllByRecursion, list_all}

@@ -1,6 +1,6 @@
 -- Laws: facts about the definitions only: each file is decided, and canonical text loads as its state.
 -- Believed as statements; the functions of the module `laws` carry their proofs.
--- The law `TiesReaderSteps` cites `ReaderSteps`; no other believed statement depends on that file.
+-- The law `TiesReaderSteps` cites `ReaderSteps`, and so does the start of a run (m4_engine, `Start`).
 -- Words: OneReading, OneAnswer, TiesReaderSteps, FreezeLoads, CanonAgain, as_older, RefreezeOlder,
 -- UnfinishedRefused.
 use Rattle.std.specs.Prelude.{◌≡◌, ◌↔◌, ℕ, List, [], ◌⊎◌, Ok, Err, map, if◌then◌else◌, true}

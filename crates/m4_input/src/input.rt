@@ -205,7 +205,8 @@ impl Input {
     }
 
     /// Inserts a value at the start, to be read before everything else. Returns `OutOfMemory` if an
-    /// allocation fails, or the fault of an earlier call; the input then stays as it was. No text is copied.
+    /// allocation fails, or the fault of an earlier call; the input then stays as it was. A text of up to 128 bytes is
+    /// copied before the bytes that come next, where there is room; a longer one stays where it is.
     #[inline(always)]
     pub fn push_front(&mut self, value: Pushed) -> Result<(), InputFault>
         requires { self.old.pending.definition ≡ None }

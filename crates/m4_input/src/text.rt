@@ -174,7 +174,8 @@ impl Text {
         Some(copy.as_slice().split_at(at).1)
     }
 
-    /// Inserts a text at the start, without a copy. If an allocation fails, nothing changes.
+    /// Inserts a text at the start: a short one by a copy, where there is room, a longer one as it is. If an allocation
+    /// fails, nothing changes.
     #[inline(always)]
     pub fn push(&mut self, text: Bytes) -> Result<(), AllocError>
         ensures ok { OnOk result (self.new ≡ with_text text self.old) }

@@ -20,7 +20,7 @@ pub enum Def {
 impl Def {
     ghost use Rattle.m4_state.specs.Definition.{length_of, IsSizedDefinition};
 
-    /// Returns a copy, which shares a long text.
+    /// Returns a copy, which shares a text that is shared already, and copies any other.
     #[inline(always)]
     pub fn share(&self) -> Result<Def, AllocError>
         ensures { IfOk result (λ d. d ≡ self.now) }

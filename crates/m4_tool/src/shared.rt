@@ -103,6 +103,9 @@ impl<'a, R, W, E> FlushBeforeRead<'a, R, W, E> {
 }
 
 impl<R: Read, W: Write, E: Write> Read for FlushBeforeRead<'_, R, W, E> {
+    // Each read gives what the reader below gives.
+    ghost remaining = { λ s. R.remaining s.reader };
+
     fn read(&mut self, buf: &mut [u8]) -> io::Result<usize> {
         if let Some(outputs) = self.outputs {
             // Bytes that could not be flushed stay in the writer, and its last flush reports the fault again.

@@ -3,7 +3,7 @@
 //! All files are opened before the run. The number of files that a process may have open is limited: from the first
 //! one on for which there is no descriptor, a file is tried, closed, and opened again when it is read.
 
-ghost use Rattle.std.specs.Prelude.{◌≡◌, IfErr, IfOk, None, false};
+ghost use Rattle.std.specs.Prelude.{◌≡◌, IfErr, IfOk, None, false, option_and_then};
 ghost use Rattle.std.specs.IoError.{error_kind};
 
 use crate::shared::{FlushBeforeRead, SharedOutputs};
@@ -63,6 +63,9 @@ impl<F: Write + Seek> Made<F> {
 }
 
 impl<F: Write> Write for Made<F> {
+    // What is written here is written to the file.
+    ghost contents = { λ m. option_and_then F.contents m.file };
+
     fn write(&mut self, buf: &[u8]) -> io::Result<usize> {
         match &mut self.file {
             Some(file) => file.write(buf),
@@ -88,6 +91,7 @@ pub struct StdWorld<'a, R: Files, I, W, E> {
     made: BufWriter<Made<<R as Files>::File>>,
     spare: Cell<Option<<R as Files>::File>>,
     is_full: Cell<bool>,
+    is_input_taken: bool,
     failures: u64,
 }
 
@@ -130,6 +134,7 @@ impl<'a, R: Files + Alloc<A = Global>, I, W, E> StdWorld<'a, R, I, W, E> {
             made,
             spare: Cell::new(spare),
             is_full: Cell::new(false),
+            is_input_taken: false,
             failures: 0,
         })
     }
@@ -254,6 +259,11 @@ impl<'a, R: Files + Alloc<A = Global>, I: Read + Copy, W: Write, E: Write> World
     }
 
     fn stdin(&mut self) -> StdSource<FileOrInput<'a, R, FlushBeforeRead<'a, I, W, E>>> {
+        // A terminal could be read on after its end.
+        if self.is_input_taken {
+            return StdSource::new(FileOrInput::Closed);
+        }
+        self.is_input_taken = true;
         let input = FlushBeforeRead::new(self.input, self.outputs);
         StdSource::new(FileOrInput::Input(input))
     }
