@@ -6,7 +6,7 @@ ghost use Rattle.std.specs.List.{AllByRecursion};
 ghost use Rattle.m4_state.specs.Definition.{IsDefinition};
 ghost use Rattle.m4_state.specs.Builtin.{most_of};
 ghost use Rattle.m4_state.specs.declared.definition.Def.TheVariants as defs;
-ghost use Rattle.m4_builtins.specs.Acted.{nothing};
+ghost use Rattle.m4_builtins.specs.Acted.{IsPushed, nothing};
 ghost use Rattle.m4_builtins.specs.Args.{IsArg};
 ghost use Rattle.m4_builtins.specs.Act as spec;
 ghost use Rattle.m4_builtins.specs.Steps.{LeadsTo, IsShorter, IsUnbounded};
@@ -46,8 +46,10 @@ pub fn act(
     requires definition { IsDefinition def.now }
     requires args { AllByRecursion IsArg args.now.list }
     // exact steps: the new state and the effect
-    ensures { IfOk result (λ e. spec.act def.now args.now.name args.now.list place.now state.old
+    ensures acts { IfOk result (λ e. spec.act def.now args.now.name args.now.list place.now state.old
         ≡ record { state = state.new; effect = e }) }
+    // exact steps: a definition that is pushed may be defined
+    ensures valid { IfOk result (λ e. IsPushed e.push) }
 {
     let mut effect = EffectBuffer::new(alloc);
     act_on(

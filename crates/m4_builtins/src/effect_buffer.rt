@@ -83,7 +83,8 @@ impl EffectBuffer {
 
     /// Returns the effect as a record of its own.
     pub(crate) fn into_effect(self) -> Effect
-        ensures { result ≡ self }
+        ensures effect { result ≡ self }
+        ensures valid { IsPushed result.push }
     {
         let EffectBuffer {
             push,

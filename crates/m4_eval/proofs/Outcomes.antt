@@ -1,13 +1,14 @@
 -- Outcomes: the value that is computed while a text is read is that of the definition.
 use Rattle.std.proofs.Common.{◌≡◌, ℕ, ℤ, List, Option, Some, None, option_map, refl, sym, ap, ◌∙◌, subst}
 use Rattle.m4_eval.specs.declared.evaluate.Evaluated.{Evaluated}
-use Rattle.m4_eval.specs.declared.evaluate.Evaluated.TheVariants.{BadExpression}
+use Rattle.m4_eval.specs.declared.evaluate.Evaluated.TheVariants.{Value, DivideByZero, BadExpression}
 use Rattle.m4_eval.specs.Expression.{Expression}
 use Rattle.m4_eval.specs.SpellsExpression.{SpellsExpression}
 use Rattle.m4_eval.specs.EvaluateSteps.{value_at}
 use Rattle.m4_eval.specs.Evaluated.{IsEvaluated, of_value, of_expression, evaluated}
 use Rattle.m4_eval.specs.ReadExpression.{expression_at}
 use Rattle.m4_eval.specs.Value.{value}
+use Rattle.m4_eval.specs.Laws.{OneValue}
 use Rattle.m4_eval.proofs.Tied.{expressions_read, others_refused, values_read}
 
 -- the outcome by the value, if there is one
@@ -34,3 +35,11 @@ read_as text (Some e) h = read_value text e ((expressions_read text e).0 h) (val
 -- what is computed is the value of the expression that is spelled
 pub spelled_as : (text : List ℕ) (v : Evaluated) → v ≡ evaluated text → IsEvaluated text v
 spelled_as text v is = subst (IsEvaluated text) (sym is) (read_as text (expression_at text) refl)
+
+valued : (text : List ℕ) (v : Evaluated) → IsEvaluated text v → v ≡ evaluated text
+valued text (Value z) h = sym (ap of_expression ((expressions_read text h.0).1 h.1) ∙ ap of_value h.2)
+valued text DivideByZero h = sym (ap of_expression ((expressions_read text h.0).1 h.1) ∙ ap of_value h.2)
+valued text BadExpression h = sym (ap of_expression ((others_refused text).1 h))
+
+pub one_value : OneValue
+one_value text v = (valued text v, spelled_as text v)

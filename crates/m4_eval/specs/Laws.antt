@@ -1,7 +1,7 @@
 -- Laws: the grammar decides each text, the reading follows the grammar, and written digits are read back.
 -- Believed as statements, computed by `ReadExpression` and `EvaluateSteps`: the law `ReadsExpressions` and
 -- the law `ValuesAreRead` are about these two. Words: OneExpression, ReadsExpressions, RefusesOthers,
--- ValuesAreRead, DigitsAreRead.
+-- ValuesAreRead, DigitsAreRead, OneValue.
 use Rattle.std.specs.Prelude.{◌≡◌, ◌↔◌, ◌≤◌, ◌<◌, ◌^◌, ℕ, ℤ, List, Some, None, option_map, unsigned_abs, false}
 use Rattle.std.specs.Fmt.{digits}
 use Rattle.m4_eval.specs.Expression.{Expression}
@@ -11,6 +11,8 @@ use Rattle.m4_eval.specs.EvaluateSteps.{value_at}
 use Rattle.m4_eval.specs.Value.{value}
 use Rattle.m4_eval.specs.Literal.{AreDigits}
 use Rattle.m4_eval.specs.InRadix.{padded}
+use Rattle.m4_eval.specs.declared.evaluate.Evaluated.{Evaluated}
+use Rattle.m4_eval.specs.Evaluated.{IsEvaluated, evaluated}
 
 -- a text spells at most one expression
 abbrev pub OneExpression : Type 0
@@ -37,3 +39,7 @@ abbrev pub DigitsAreRead : Type 0
 DigitsAreRead =
     (radix width : ℕ) (z : ℤ) → 2 ≤ radix → radix ≤ 36 → unsigned_abs z < 2 ^ 32
     → AreDigits radix (unsigned_abs z) (padded width (digits radix false (unsigned_abs z)))
+
+-- a text has exactly one result, and `evaluated` is it
+abbrev pub OneValue : Type 0
+OneValue = (text : List ℕ) (v : Evaluated) → IsEvaluated text v ↔ (v ≡ evaluated text)

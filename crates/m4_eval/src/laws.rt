@@ -3,7 +3,7 @@
 //! Each function's contract is a law of `specs/Laws.antt`.
 //! Manual: "Evaluating integer expressions".
 
-ghost use Rattle.m4_eval.specs.Laws.{OneExpression, ReadsExpressions, RefusesOthers, ValuesAreRead, DigitsAreRead};
+ghost use Rattle.m4_eval.specs.Laws.{OneExpression, ReadsExpressions, RefusesOthers, ValuesAreRead, DigitsAreRead, OneValue};
 
 /// A text spells at most one expression.
 pub fn one_expression()
@@ -33,4 +33,10 @@ pub fn values_read()
 pub fn digits_read()
     // exact expressions: the digits that are written are read back
     ensures { DigitsAreRead }
+{}
+
+/// A text has exactly one result.
+pub fn one_value()
+    // exact expressions: the result of a text is the one that the grammar and the values give
+    ensures { OneValue }
 {}
