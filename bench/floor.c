@@ -2,11 +2,15 @@
    directives, keeps each string in memory of its own, sorts by name, and writes them. It checks
    nothing and gives nothing back, so it is no second m4r: bench/run takes it as a yardstick.
 
-   usage: floor FILE > OUT */
+   usage: floor FILE > OUT
+
+   And what it costs at least to load one: `floor --reload FILE` reads the file whole, checks each
+   directive, hashes each name once, and keeps entries that point into what was read. */
 #include <fcntl.h>
 #include <stdio.h>
 #include <stdlib.h>
 #include <string.h>
+#include <sys/stat.h>
 #include <unistd.h>
 
 enum { BLOCK = 65536 };
@@ -106,9 +110,89 @@ static void put_directive(const struct directive *d) {
     put("\n", 1);
 }
 
+/* A name with its last definition, in a table with open addresses. */
+struct entry {
+    const char *name, *text;
+    size_t name_len, text_len;
+    unsigned long hash;
+};
+
+static struct entry *table;
+static size_t names, places;
+
+static unsigned long hash_of(const char *name, size_t len) {
+    unsigned long hash = len;
+    for (; len >= 8; name += 8, len -= 8) {
+        unsigned long piece;
+        memcpy(&piece, name, 8);
+        hash = (hash ^ piece) * 0x9e3779b97f4a7c15;
+        hash ^= hash >> 29;
+    }
+    for (; len > 0; name++, len--) hash = (hash ^ (unsigned char)*name) * 0x9e3779b97f4a7c15;
+    return hash ^ hash >> 32;
+}
+
+static struct entry *place_of(const char *name, size_t len, unsigned long hash) {
+    size_t i = hash & (places - 1);
+    while (table[i].name && (table[i].hash != hash || table[i].name_len != len || memcmp(table[i].name, name, len)))
+        i = (i + 1) & (places - 1);
+    return &table[i];
+}
+
+static void grow(void) {
+    struct entry *old = table;
+    size_t count = places;
+    places = places ? places * 2 : 1024;
+    table = calloc(places, sizeof *table);
+    if (!table) exit(1);
+    for (size_t i = 0; i < count; i++)
+        if (old[i].name) *place_of(old[i].name, old[i].name_len, old[i].hash) = old[i];
+    free(old);
+}
+
+/* A number of a first line, which has to end with this byte. */
+static size_t number_at(const char **at, const char *end, char last) {
+    size_t n = 0;
+    const char *begun = *at;
+    while (*at < end && **at >= '0' && **at <= '9') n = n * 10 + (size_t)(*(*at)++ - '0');
+    if (*at == begun || *at == end || *(*at)++ != last) exit(1);
+    return n;
+}
+
+static const char *strings_of(const char *at, const char *end) {
+    int is_diversion = *at++ == 'D';
+    if (is_diversion && at < end && *at == '-') at++;
+    size_t first = number_at(&at, end, ','), second = number_at(&at, end, '\n');
+    if (is_diversion) first = 0;
+    if (second >= (size_t)(end - at) || first >= (size_t)(end - at) - second || at[first + second] != '\n') exit(1);
+    if (2 * names >= places) grow();
+    unsigned long hash = hash_of(at, first);
+    struct entry *entry = place_of(at, first, hash);
+    names += entry->name == NULL;
+    *entry = (struct entry){at, at + first, first, second, hash};
+    return at + first + second + 1;
+}
+
+static void load(const char *path) {
+    struct stat about;
+    if ((file = open(path, O_RDONLY)) < 0 || fstat(file, &about) < 0) exit(1);
+    char *bytes = malloc((size_t)about.st_size + 1);
+    ssize_t len = read(file, bytes, (size_t)about.st_size);
+    const char *at = bytes, *end = bytes + (len > 0 ? len : 0);
+    while (at < end) {
+        if (*at == '\n') at++;
+        else if (*at == '#' || *at == 'V') at = (at = memchr(at, '\n', (size_t)(end - at))) ? at + 1 : end;
+        else at = strings_of(at, end);
+    }
+}
+
 int main(int count, char **words) {
     struct directive *all = NULL;
     size_t len = 0, room = 0;
+    if (count == 3 && strcmp(words[1], "--reload") == 0) {
+        load(words[2]);
+        _exit(0);
+    }
     if (count != 2 || (file = open(words[1], O_RDONLY)) < 0) return 1;
     for (int c = next_byte(); c != EOF; c = next_byte()) {
         if (c == '#' || c == 'V' || c == '\n') {
