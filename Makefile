@@ -5,7 +5,7 @@ include install.mk
 # What is compiled and proved, and what the program's stored run reads. A page that changes proves nothing again.
 SOURCES := crates.txt $(shell find crates -name out -prune -o -type f ! -name '*.md' ! -path '*/must-fail/*' -print)
 
-.PHONY: help clean check demo test-program cases programs differences expressions chance dist bench real-files mutants \
+.PHONY: help clean check demo test-program cases programs differences expressions chance dist bench real-files real-projects mutants \
 	hostile refused-memory torn wrong-bodies
 
 # What can be made, from the comments above the targets.
@@ -62,6 +62,10 @@ bench: m4r
 # The frozen files of autoconf, where they are installed.
 real-files: m4r
 	tests/real_files
+
+# Programs of other packages that call m4, with m4r in its place.
+real-projects: m4r
+	tests/real_projects
 
 # Damaged frozen files, made by chance, against the second reader.
 mutants: m4r
