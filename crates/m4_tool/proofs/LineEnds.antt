@@ -25,7 +25,7 @@ use Rattle.m4_tool.specs.Failure.{failure_lines, lines_of, status_after}
 use Rattle.m4_tool.specs.Line.{refused_line, LineResult, refusals, refusals_by, result_of_run, unreloaded}
 use Rattle.m4_tool.specs.FailureCounts.{Grew}
 use Rattle.m4_tool.specs.LineEnd.{failure_by, failure_of, frozen_failure, AsDefined, BrokeOff, EndsBy, FilesBy}
-use Rattle.m4_tool.specs.LineEnd.{HasPrefix, Reports, Seen, added_lines}
+use Rattle.m4_tool.specs.LineEnd.{HasPrefix, RefusesAs, Reports, Seen, added_lines}
 use Rattle.m4_tool.specs.LineRun.{Closes, CountedBy, RanBy, RanFiles, failure_after}
 use Rattle.m4_tool.specs.World.{Files, made_file}
 use Rattle.m4_tool.proofs.Counts.{before_by, by_grew, grew_by, grew_none, grew_one, grew_then}
@@ -216,16 +216,28 @@ as_defined name file r c b s x o0 o1 o2 m0 m1 m2 f0 f1 f2 w0 w1 w2 status z n g 
       files = q ∙ files_all c name r w0 w1 g.reason z (unfailed c b n) h;
     }
 
+refused_as : (file : List ℕ) (f : FrozenFault) (k : FrozenKind) (r : RunResult) (s : ℕ) (x : Bool) (w : Contents)
+    → f.kind ≡ k → RefusedBy k r (record { status = s; cause = causes.Frozen f; wrapped = x }) w → RefusesAs file (causes.Frozen f) (result_of_run file r)
+refused_as file f kinds.OutOfMemory r s x w h g = inl h
+refused_as file f k r s x w h g = inr (sym (ap (refusals_by file) g.reason))
+
+-- the line about a frozen file that a run refused
+refuses_as : (file : List ℕ) (c : Cause) (r : RunResult) (s : ℕ) (x : Bool) (w : Contents)
+    → GivesBy c r (record { status = s; cause = c; wrapped = x }) w → RefusesAs file c (result_of_run file r)
+refuses_as file (causes.Frozen f) r s x w g = refused_as file f f.kind r s x w refl g
+refuses_as file c r s x w g = tt
+
 broke_off : (name file : List ℕ) (r : RunResult) (c : Cause) (b : Bool) (f : Failure) (s : ℕ) (x m : Bool) (o0 o1 o2 m0 m1 m2 : Option (List ℕ)) (f0 f1 f2 : ℕ) (w0 w1 w2 : Option Files) (status : ℕ)
-    → failure_of c b ≡ Some f → Prefixes r (writers o0 o1 m0 m1) → CountedBy c f0 f1 → s ≡ status_of (Ends c) m → RanFiles c name (unwrap_or r.frozen []) w0 w1
+    → failure_of c b ≡ Some f → RefusesAs file c (result_of_run file r) → Prefixes r (writers o0 o1 m0 m1) → CountedBy c f0 f1 → s ≡ status_of (Ends c) m → RanFiles c name (unwrap_or r.frozen []) w0 w1
     → status ≡ status_after (failure_of c b) s → o2 ≡ o1 → Reports (added_lines file c b) m1 m2 f1 f2 → w2 ≡ w1
     → BrokeOff name file (result_of_run file r) status f (seen_from o0 o2 m0 m2 f0 f2 w0 w2)
-broke_off name file r c b f s x m o0 o1 o2 m0 m1 m2 f0 f1 f2 w0 w1 w2 status n g k t h l o p q = record {
+broke_off name file r c b f s x m o0 o1 o2 m0 m1 m2 f0 f1 f2 w0 w1 w2 status n d g k t h l o p q = record {
   is_status = l ∙ status_fail c b f s n;
   output = subst (λ (v : Option (List ℕ)). HasBegun o0 v r.output) (sym o) g.output;
   cause = c;
   flushed = b;
   failed = n;
+  refused = d;
   begun = m1;
   messages = g.messages;
   count = f1;
@@ -280,13 +292,13 @@ ends_by None name file r c b s x m o0 o1 o2 m0 m1 m2 f0 f1 f2 w0 w1 w2 status z 
 ends_by (Some failures.Report) name file r c b s x m o0 o1 o2 m0 m1 m2 f0 f1 f2 w0 w1 w2 status z n g k t h l o p q =
     absurd (no_report c b (sym n))
 ends_by (Some failures.Read) name file r c b s x m o0 o1 o2 m0 m1 m2 f0 f1 f2 w0 w1 w2 status z n g k t h l o p q =
-    broke_off name file r c b failures.Read s x m o0 o1 o2 m0 m1 m2 f0 f1 f2 w0 w1 w2 status (sym n) (prefixes c r (record { status = s; cause = c; wrapped = x }) (writers o0 o1 m0 m1) g) k t h l o p q
+    broke_off name file r c b failures.Read s x m o0 o1 o2 m0 m1 m2 f0 f1 f2 w0 w1 w2 status (sym n) (refuses_as file c r s x (writers o0 o1 m0 m1) g) (prefixes c r (record { status = s; cause = c; wrapped = x }) (writers o0 o1 m0 m1) g) k t h l o p q
 ends_by (Some failures.Write) name file r c b s x m o0 o1 o2 m0 m1 m2 f0 f1 f2 w0 w1 w2 status z n g k t h l o p q =
-    broke_off name file r c b failures.Write s x m o0 o1 o2 m0 m1 m2 f0 f1 f2 w0 w1 w2 status (sym n) (prefixes c r (record { status = s; cause = c; wrapped = x }) (writers o0 o1 m0 m1) g) k t h l o p q
+    broke_off name file r c b failures.Write s x m o0 o1 o2 m0 m1 m2 f0 f1 f2 w0 w1 w2 status (sym n) (refuses_as file c r s x (writers o0 o1 m0 m1) g) (prefixes c r (record { status = s; cause = c; wrapped = x }) (writers o0 o1 m0 m1) g) k t h l o p q
 ends_by (Some failures.OutOfMemory) name file r c b s x m o0 o1 o2 m0 m1 m2 f0 f1 f2 w0 w1 w2 status z n g k t h l o p q =
-    broke_off name file r c b failures.OutOfMemory s x m o0 o1 o2 m0 m1 m2 f0 f1 f2 w0 w1 w2 status (sym n) (prefixes c r (record { status = s; cause = c; wrapped = x }) (writers o0 o1 m0 m1) g) k t h l o p q
+    broke_off name file r c b failures.OutOfMemory s x m o0 o1 o2 m0 m1 m2 f0 f1 f2 w0 w1 w2 status (sym n) (refuses_as file c r s x (writers o0 o1 m0 m1) g) (prefixes c r (record { status = s; cause = c; wrapped = x }) (writers o0 o1 m0 m1) g) k t h l o p q
 ends_by (Some failures.Load) name file r c b s x m o0 o1 o2 m0 m1 m2 f0 f1 f2 w0 w1 w2 status z n g k t h l o p q =
-    broke_off name file r c b failures.Load s x m o0 o1 o2 m0 m1 m2 f0 f1 f2 w0 w1 w2 status (sym n) (prefixes c r (record { status = s; cause = c; wrapped = x }) (writers o0 o1 m0 m1) g) k t h l o p q
+    broke_off name file r c b failures.Load s x m o0 o1 o2 m0 m1 m2 f0 f1 f2 w0 w1 w2 status (sym n) (refuses_as file c r s x (writers o0 o1 m0 m1) g) (prefixes c r (record { status = s; cause = c; wrapped = x }) (writers o0 o1 m0 m1) g) k t h l o p q
 
 -- the same if a line for a refused file could not be written
 after_report : (failure : Option Failure) (is_reported : Bool) (name file : List ℕ) (r : LineResult) (status : ℕ) (w : Seen) → EndsBy failure name file r status w

@@ -101,6 +101,12 @@ abbrev pub FilesBy : Failure → List ℕ → List ℕ → Option Files → Opti
 FilesBy failures.Write name text old new = (new ≡ old) ⊎ HasPrefix name text old new
 FilesBy failure name text old new = new ≡ old
 
+-- a line about a refused frozen file is the one that is defined, unless memory ran out while the file was read
+abbrev pub RefusesAs : List ℕ → Cause → LineResult → Type 0
+RefusesAs file (causes.Frozen fault) r =
+    (fault.kind ≡ kinds.OutOfMemory) ⊎ (refusals file (causes.Frozen fault) ≡ r.lines)
+RefusesAs file cause r = Unit {0}
+
 -- a device or an allocation failed: prefixes of everything were written, and then the lines about the failure
 pub record BrokeOff (name file : List ℕ) (r : LineResult) (status : ℕ) (failure : Failure) (w : Seen) : Type 0 where
   pub is_status : status ≡ 1
@@ -108,6 +114,7 @@ pub record BrokeOff (name file : List ℕ) (r : LineResult) (status : ℕ) (fail
   pub cause : Cause
   pub flushed : Bool
   pub failed : failure_of cause flushed ≡ Some failure
+  pub refused : RefusesAs file cause r
   pub begun : Option (List ℕ)
   pub messages : HasBegun w.messages_old begun r.messages
   pub count : ℕ
