@@ -5,7 +5,7 @@ include install.mk
 # What is compiled and proved, and what the program's stored run reads. A page that changes proves nothing again.
 SOURCES := crates.txt $(shell find crates -name out -prune -o -type f ! -name '*.md' ! -path '*/must-fail/*' -print)
 
-.PHONY: help clean check demo test-program cases programs differences expressions chance dist bench real-files real-projects mutants \
+.PHONY: help clean check demo test-program cases programs differences expressions chance dist deb bench real-files real-projects mutants \
 	hostile refused-memory torn wrong-bodies
 
 # What can be made, from the comments above the targets.
@@ -82,6 +82,10 @@ refused-memory: m4r
 # Frozen files that are cut while they are written, reloaded.
 torn: m4r
 	tests/torn
+
+# A Debian package of it, in dist/, with check-macros on the path as m4r-check-macros.
+deb: m4r
+	tools/deb dist
 
 # The wrong bodies that the gate leaves out. Give CRATES='m4_tool ..' to try those of some crates.
 wrong-bodies:
