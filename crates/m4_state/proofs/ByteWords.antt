@@ -158,6 +158,6 @@ module _ (xs ys : List ℕ) (a b c d : ℕ) (rx : IsRank xs a b) (ry : IsRank ys
       let high = (words_at (filled 16 xs) (filled 16 ys) rx.bytes ry.bytes 0 (omega (arith, length-filled 16 xs)) (omega (arith, length-filled 16 ys)) refl).alike (sym rx.high ∙ e ∙ ry.high) in
       let low = (words_at (filled 16 xs) (filled 16 ys) rx.bytes ry.bytes 8 (omega (arith, length-filled 16 xs)) (omega (arith, length-filled 16 ys)) high).alike (sym rx.low ∙ f ∙ ry.low) in
       let same : take 16 xs ≡ take 16 ys =
-          sym (filled_front 16 xs p) ∙ sym (two_words (filled 16 xs) (length-filled 16 xs)) ∙ (λ j. high j ++ low j)
-          ∙ two_words (filled 16 ys) (length-filled 16 ys) ∙ filled_front 16 ys q in
+      sym (filled_front 16 xs p) ∙ sym (two_words (filled 16 xs) (length-filled 16 xs)) ∙ (λ j. high j ++ low j)
+      ∙ two_words (filled 16 ys) (length-filled 16 ys) ∙ filled_front 16 ys q in
       sym (past 16 xs ys p q same)
