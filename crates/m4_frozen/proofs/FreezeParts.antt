@@ -1,21 +1,16 @@
 -- What the parts of the writer put, joined, is the canonical text.
-use Rattle.std.proofs.Common.{◌≡◌, ℕ, ℤ, pos, Bool, true, false, cond, List, [], ◌∷◌, ◌++◌, map, Some, None, refl, sym, ap, subst, ◌∙◌, append_assoc, Ordering, Less, Equal, Greater}
-use Rattle.std.specs.Prelude.{IsTrue, int_lt, FitsSigned}
+use Rattle.std.proofs.Common.{◌≡◌, ℕ, ℤ, pos, Bool, true, false, cond, List, [], ◌∷◌, ◌++◌, map, refl, sym, ap, ◌∙◌, append_assoc}
+use Rattle.std.specs.Prelude.{FitsSigned}
 use Rattle.std.specs.Int.{w32}
 use Rattle.std.specs.List.{flat_map, AllByRecursion}
-use Rattle.std.specs.Ordering.{int_cmp, int_eq, is_lt, is_eq}
-use Rattle.std.specs.FinMap.{is_sorted, int_cmp-IsAntisymmetric}
-use Rattle.std.specs.Cmp.{int_cmp_total, tied_itself}
+use Rattle.std.specs.Ordering.{int_eq}
 use Rattle.std.proofs.lemmas.List.{append-nil}
 use Rattle.std.proofs.lemmas.Grind.{flat_map-append}
-use Rattle.std.proofs.lemmas.Option.{same_Some}
-use Rattle.std.specs.FinMap.Entries.{below_all}
-use Rattle.m4_state.specs.State.{State, IsDiversion, text_at, next_after, Diversion as NumberedText}
+use Rattle.m4_state.specs.State.{State, IsDiversion, Diversion as NumberedText}
 use Rattle.m4_state.specs.declared.definition.Def.{Def}
 use Rattle.m4_state.specs.declared.delimiters.Delimiters.{Delimiters}
 use Rattle.m4_state.specs.Delimiters.{default_quotes, default_comments}
 use Rattle.m4_state.specs.Table.{Pairs}
-use Rattle.m4_state.proofs.Pairs.{both}
 use Rattle.m4_frozen.specs.Ascii.{letter_C, letter_Q}
 use Rattle.m4_frozen.specs.Directive.{Directive, Quotes, Comments, Diversion}
 use Rattle.m4_frozen.specs.WriterSteps.{delimiters_text, stack_text, names_text, texts_text, current_text, directives_text, frozen_text}

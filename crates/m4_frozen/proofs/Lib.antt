@@ -13,7 +13,7 @@ pub mod Settled
 pub mod Unsettled
 pub mod Answered
 pub mod ReadOn
-pub mod HeldParts
+pub mod TextAt
 pub mod TextRead
 pub mod Remaining
 pub mod WindowRead

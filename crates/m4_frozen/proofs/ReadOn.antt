@@ -2,12 +2,12 @@
 use Rattle.std.proofs.Common.{◌≡◌, ℕ, zero, suc, ◌+◌, ◌-◌, ◌<◌, ◌≤◌, Bool, true, false, eqb, List, [], ◌∷◌, ◌++◌}
 use Rattle.std.proofs.Common.{length, take, drop, Option, Some, None, Result, Ok, Err, refl, sym, ap, subst, ◌∙◌}
 use Rattle.std.proofs.Common.{append_assoc, arith, inl, inr}
-use Rattle.std.specs.Prelude.{fold, map}
-use Rattle.std.proofs.lemmas.List.{append-nil, length-append, drop_at, drop-drop, take-append-drop}
+use Rattle.std.specs.Prelude.{fold}
+use Rattle.std.proofs.lemmas.List.{append-nil, length-append, drop_at, drop-drop}
 use Rattle.std.proofs.lemmas.List.Elements.{All-nil}
 use Rattle.std.proofs.lemmas.Grind.{flat_map-append}
 use Rattle.m4_state.specs.State.{State, empty}
-use Rattle.m4_frozen.specs.Ascii.{newline, comma, hash, letter_T, letter_V}
+use Rattle.m4_frozen.specs.Ascii.{newline, hash, letter_V}
 use Rattle.m4_frozen.specs.declared.fault.Refusal.{Refusal}
 use Rattle.m4_frozen.specs.declared.fault.ReadStop.{ReadStop}
 use Rattle.m4_frozen.specs.declared.fault.ReadStop.TheVariants as stops
@@ -16,16 +16,12 @@ use Rattle.m4_frozen.specs.declared.loading.Loading.{Loading}
 use Rattle.m4_frozen.specs.declared.loading.Pause.{Pause}
 use Rattle.m4_frozen.specs.Denote.{with_directive, issued_by}
 use Rattle.m4_frozen.specs.Directive.{Directive, Text}
-use Rattle.m4_frozen.specs.DirectiveView.{directive_of}
-use Rattle.m4_frozen.specs.declared.directive.Directive.{Directive as CodeDirective}
-use Rattle.m4_frozen.specs.declared.directive.Directive.TheVariants as code
 use Rattle.m4_frozen.specs.Outcome.{Loads}
-use Rattle.m4_frozen.specs.Spells.{IsPair, IsSkippedLine, AreSkippedLines}
-use Rattle.m4_frozen.specs.ReaderSteps.{◌>>=◌, skip_lines, next_at, directive_at, directives_at, after_version, pair_at}
+use Rattle.m4_frozen.specs.Spells.{IsSkippedLine, AreSkippedLines}
+use Rattle.m4_frozen.specs.ReaderSteps.{◌>>=◌, skip_lines, next_at, directive_at, directives_at, after_version}
 use Rattle.m4_frozen.specs.ReaderSteps.{file_at, is_settled}
 use Rattle.m4_frozen.proofs.ByteTests.{test}
-use Rattle.m4_frozen.specs.Underway.{IsAtDirective, Skips, with_front, left_at, HasRead, ReadAs, IsText, AreTexts, text_directive}
-use Rattle.m4_frozen.specs.declared.long_texts.NamedPart.{NamedPart}
+use Rattle.m4_frozen.specs.Underway.{IsAtDirective, Skips, with_front, left_at, HasRead, ReadAs, IsTextAt, IsEndOf}
 use Rattle.m4_frozen.specs.Underway.{IsRead, HasReadOne, HasAdvanced, HasPaused, Keeps, ReadsOne, IsWithin, PausesAt}
 use Rattle.m4_frozen.specs.Underway.{Advances, EndsSo, stays}
 use Rattle.m4_frozen.proofs.SkippedLines.{skip_lines-append}
@@ -258,26 +254,6 @@ has_read_directive (b ∷ bs) after d l new (inr at) v e s i =
       };
     }
 
--- a directive that is read has a byte at least
-pub directive_shrinks : (bytes after : List ℕ) (d : Directive) (inside : Bool) → IsAtDirective inside bytes
-    → next_at bytes ≡ Ok (Some (d, after)) → length after < length bytes
-directive_shrinks [] after d inside at e = absurd cc
-directive_shrinks (b ∷ bs) after d inside (inl none) e = absurd cc
-directive_shrinks (b ∷ bs) after d inside (inr at) e =
-    let k = directive_ok b bs (directive_at b bs) d after (directive_here b bs at.1) e in
-    omega (arith, ap (λ (x : List ℕ). length x) k.2, length-append k.0 after)
-
--- a text directive after its letter
-pub text_here : (line after name text : List ℕ) → pair_at line ≡ Ok ((name, text), after)
-    → IsAtDirective false (letter_T ∷ line) × (next_at (letter_T ∷ line) ≡ Ok (Some (Text name text, after)))
-unfolding directive_at
-text_here line after name text e = (inr (refl, refl), rw e refl)
-
-pub text_shrinks : (line after name text : List ℕ) → pair_at line ≡ Ok ((name, text), after) → length after < length (letter_T ∷ line)
-text_shrinks line after name text e =
-    let h = text_here line after name text e in
-    directive_shrinks (letter_T ∷ line) after (Text name text) false h.0 h.1
-
 -- a refusal at the version is the file's
 pub version_refused : (read bytes : List ℕ) (x : Refusal) (l : Loading)
     → IsAtDirective l.inside bytes
@@ -491,48 +467,56 @@ stop_within here l new inside stops.OutOfMemory at o = tt
 stop_within here l new inside (stops.Refused x) at o =
     (o.1, rw (ap (λ (y : Loading). y.inside) o.0) at)
 
--- what is read in two steps
-read_twice : (bytes mid after : List ℕ) (l m n : Loading) → HasReadOne bytes l m mid → HasReadOne mid m n after → HasReadOne bytes l n after
-read_twice bytes mid after l m n a b = record {
-  one = a.one ++ b.one;
-  spelled = a.spelled ∙ ap (λ (x : List ℕ). a.one ++ x) b.spelled ∙ sym (append_assoc a.one b.one after);
-  some = omega (arith, length-append a.one b.one, a.some);
-  no_text = b.no_text ∙ a.no_text;
-  has_read = λ read h. subst (λ (x : List ℕ). HasRead x n) (append_assoc read a.one b.one) (b.has_read (read ++ a.one) (a.has_read read h));
+-- bytes at the end of others, after some of them were read
+pub end_after : (block bytes rest : List ℕ) (old l : Loading) → IsEndOf bytes block → HasAdvanced bytes old l rest → IsEndOf rest block
+end_after block bytes rest old l e a = (e.0 ++ a.front, e.1 ∙ ap (λ (x : List ℕ). e.0 ++ x) a.spelled ∙ sym (append_assoc e.0 a.front rest))
+
+pub end_skipped : (block rest start : List ℕ) (before inside : Bool) → IsEndOf rest block → Skips before rest inside start → IsEndOf start block
+end_skipped block rest start before inside e s = (e.0 ++ s.skipped, e.1 ∙ ap (λ (x : List ℕ). e.0 ++ x) s.spelled ∙ sym (append_assoc e.0 s.skipped start))
+
+-- the place of the strings of a text in those others
+pub place_in : (block all bytes rest strings : List ℕ) (middle len : ℕ) (old l : Loading) → all ≡ block → IsEndOf bytes block → HasAdvanced bytes old l rest
+    → IsTextAt middle len strings rest → strings ≡ drop (length all - length strings) block
+place_in block all bytes rest strings middle len old l whole e a t =
+    let before = end_after block bytes rest old l e a in
+    let parts : block ≡ (before.0 ++ t.line) ++ strings = before.1 ∙ ap (λ (x : List ℕ). before.0 ++ x) t.spelled ∙ sym (append_assoc before.0 t.line strings) in
+    let size : length all - length strings ≡ length (before.0 ++ t.line) =
+    omega (arith, ap (λ (x : List ℕ). length x) (whole ∙ parts), length-append (before.0 ++ t.line) strings) in
+    sym (ap (drop (length all - length strings)) parts ∙ drop_at (before.0 ++ t.line) strings (length all - length strings) (sym size))
+
+-- the directive of a text was read after others
+pub advanced_text : (bytes rest strings : List ℕ) (middle len : ℕ) (old l new : Loading) → IsAtDirective old.inside bytes → l.inside ≡ old.inside → l.versioned ≡ true
+    → HasAdvanced bytes old l rest → IsTextAt middle len strings rest
+    → new ≡ record l { state = with_directive l.state (Text (take middle strings) (take len (drop middle strings))) }
+    → HasAdvanced bytes old new (drop (middle + len + 1) strings)
+advanced_text bytes rest strings middle len old l new at same v a t is =
+    let d : Directive = Text (take middle strings) (take len (drop middle strings)) in
+    let after : List ℕ = drop (middle + len + 1) strings in
+    let some : 0 < length rest = omega (arith, t.within, ap (λ (x : List ℕ). length x) t.spelled, length-append t.line strings) in
+    let out : old.inside ≡ false = elim at [
+      | inl none ↦ absurd (omega (arith, some, ap (λ (x : List ℕ). length x) a.spelled, ap (λ (x : List ℕ). length x) none, length-append a.front rest))
+      | inr outside ↦ outside.0
+    ] in
+    let o : HasReadOne rest l new after =
+    subst (λ (x : Loading). HasReadOne rest l x after) (sym is)
+    (has_read_directive rest after d l (record l { state = with_directive l.state d })
+    (subst (λ (b : Bool). IsAtDirective b rest) (sym (same ∙ out)) t.at) v t.gives refl (sym (append-nil l.issued.items))) in
+    record {
+      front = a.front ++ o.one;
+      spelled = a.spelled ∙ ap (λ (x : List ℕ). a.front ++ x) o.spelled ∙ sym (append_assoc a.front o.one after);
+      no_text = o.no_text ∙ a.no_text;
+      has_read = λ read h. subst (λ (x : List ℕ). HasRead x new) (append_assoc read a.front o.one) (o.has_read (read ++ a.front) (a.has_read read h));
+    }
+
+-- lines were skipped, and then the directives of texts read
+pub advanced_on : (bytes rest start after : List ℕ) (old l m : Loading) (inside : Bool) → HasAdvanced bytes old l rest → Skips l.inside rest inside start
+    → HasAdvanced start (record l { inside = inside }) m after → HasAdvanced bytes old m after
+advanced_on bytes rest start after old l m inside a s t = record {
+  front = (a.front ++ s.skipped) ++ t.front;
+  spelled = rw (a.spelled, s.spelled, t.spelled) (simp append_assoc);
+  no_text = t.no_text ∙ a.no_text;
+  has_read = λ read h.
+      let mid : HasRead (read ++ (a.front ++ s.skipped)) (record l { inside = inside }) =
+      rw (sym (append_assoc read a.front s.skipped)) (has_read_lines (read ++ a.front) s.skipped l inside (a.has_read read h) s.same) in
+      subst (λ (x : List ℕ). HasRead x m) (append_assoc read (a.front ++ s.skipped) t.front) (t.has_read (read ++ (a.front ++ s.skipped)) mid);
 }
-
--- a text was read
-read_text : (bytes after : List ℕ) (t : NamedPart) (l : Loading) → l.inside ≡ false → l.versioned ≡ true → IsText t bytes after
-    → HasReadOne bytes l (record l { state = with_directive l.state (text_directive t) }) after
-read_text bytes after t l i v h =
-    has_read_directive bytes after (text_directive t) l (record l { state = with_directive l.state (text_directive t) })
-    (subst (λ (b : Bool). IsAtDirective b bytes) (sym i) h.0) v h.1 refl (sym (append-nil l.issued.items))
-
--- texts were read, one directly after another
-has_read_texts : (bytes after : List ℕ) (t : NamedPart) (ts : List NamedPart) (l : Loading) → l.inside ≡ false → l.versioned ≡ true → AreTexts (t ∷ ts) bytes after
-    → HasReadOne bytes l (record l { state = fold with_directive l.state (map text_directive (t ∷ ts)) }) after
-has_read_texts bytes after t [] l i v h =
-    subst (λ (x : List ℕ). HasReadOne bytes l (record l { state = with_directive l.state (text_directive t) }) x) h.2 (read_text bytes h.0 t l i v h.1)
-has_read_texts bytes after t (u ∷ us) l i v h =
-    let mid : Loading = record l { state = with_directive l.state (text_directive t) } in
-    read_twice bytes h.0 after l mid (record l { state = fold with_directive l.state (map text_directive (t ∷ u ∷ us)) })
-    (read_text bytes h.0 t l i v h.1)
-    (has_read_texts h.0 after u us mid i v h.2)
-
--- a directive is read outside of comments
-inside_at : (bytes after : List ℕ) (d : Directive) (inside : Bool) → IsAtDirective inside bytes → next_at bytes ≡ Ok (Some (d, after)) → inside ≡ false
-inside_at [] after d inside (inl none) e = absurd cc
-inside_at (b ∷ bs) after d inside (inl none) e = absurd cc
-inside_at bytes after d inside (inr at) e = at.0
-
-pub read_all_texts : (ts : List NamedPart) (bytes after : List ℕ) (l : Loading) (new : State) → 0 < length ts → IsAtDirective l.inside bytes → l.versioned ≡ true
-    → AreTexts ts bytes after → new ≡ fold with_directive l.state (map text_directive ts) → HasReadOne bytes l (record l { state = new }) after
-read_all_texts [] bytes after l new some at v h e = absurd (omega arith)
-read_all_texts (t ∷ ts) bytes after l new some at v h e =
-    subst (λ (s : State). HasReadOne bytes l (record l { state = s }) after) (sym e)
-    (has_read_texts bytes after t ts l (inside_at bytes h.0 (text_directive t) l.inside at h.1.1) v h)
-
--- one more text after others
-pub texts_on : (ts : List NamedPart) (u : NamedPart) (bytes mid after : List ℕ) → AreTexts ts bytes mid → IsText u mid after → AreTexts (ts ++ u ∷ []) bytes after
-texts_on [] u bytes mid after h k = (after, subst (λ (x : List ℕ). IsText u x after) (sym h) k, refl)
-texts_on (t ∷ ts) u bytes mid after h k = (h.0, h.1, texts_on ts u h.0 mid after h.2 k)

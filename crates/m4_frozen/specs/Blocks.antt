@@ -1,6 +1,6 @@
 -- Blocks: the progress of loading a file whose bytes arrive block by block.
 -- Not believed: private contracts cite it; `read_frozen` states the same for whole files.
--- Words: Fills, MatchesScript, failures_after, IsUnderway.
+-- Words: HasTaken, Fills, MatchesScript, failures_after, IsUnderway.
 use Rattle.std.specs.Prelude.{◌≡◌, ℕ, ◌≤◌, List, ◌++◌, length, Option, IfSome, Result, Ok, Err, ◌⊎◌}
 use Rattle.m4_state.specs.Device.{Script, after_bytes, one_more, IsAtEnd, IsAtFault}
 use Rattle.m4_frozen.specs.declared.fault.FrozenKind.TheVariants as kinds
@@ -8,8 +8,8 @@ use Rattle.m4_frozen.specs.declared.fault.FrozenFault.{FrozenFault}
 use Rattle.m4_frozen.specs.declared.loading.Loaded.{Loaded}
 use Rattle.m4_frozen.specs.declared.loading.Loading.{Loading}
 use Rattle.m4_frozen.specs.declared.loading.Pause.{Pause}
-use Rattle.m4_frozen.specs.declared.window.BlockRead.{BlockRead}
-use Rattle.m4_frozen.specs.declared.window.BlockRead.TheVariants as marks
+use Rattle.m4_frozen.specs.declared.room.BlockRead.{BlockRead}
+use Rattle.m4_frozen.specs.declared.room.BlockRead.TheVariants as marks
 use Rattle.m4_frozen.specs.declared.window.Window.{Window}
 use Rattle.m4_frozen.specs.FaultAt.{ExactFault, as_offset, reported, FaultAt, IsSettledBy}
 use Rattle.m4_frozen.specs.Outcome.{Loads}
@@ -25,6 +25,12 @@ MatchesScript marks.Failure remaining = IsAtFault remaining
 abbrev pub failures_after : BlockRead → ℕ → ℕ
 failures_after marks.Failure n = one_more n
 failures_after after n = n
+
+-- bytes were read, and follow those that were there
+pub record HasTaken (old new : List ℕ) (messages_old messages_new : Option Script) : Type 0 where
+  pub block : List ℕ
+  pub bytes : new ≡ old ++ block
+  pub gives : messages_old ≡ after_bytes block messages_new
 
 -- a block was read, and follows the bytes of the window
 pub record HasCome (old new : Window) (messages_old messages_new : Option Script) : Type 0 where

@@ -7,7 +7,6 @@ pub mod FaultAt
 pub mod Outcome
 pub mod ReaderSteps
 pub mod StepOutcome
-pub mod HeldBytes
 pub mod Underway
 pub mod Blocks
 pub mod Laws

@@ -1,12 +1,12 @@
 -- Underway: the part of a file that was read so far, if its bytes arrive block by block.
 -- Not believed: private contracts cite it; `read_frozen` states the same for whole files.
--- Words: AreTexts, Skips, HasRead, ReadsOne, PausesAt, Advances.
-use Rattle.std.specs.Prelude.{◌≡◌, ℕ, ℤ, ◌+◌, ◌-◌, ◌<◌, ◌≤◌, Bool, true, false, List, [], ◌∷◌, ◌++◌, length, take, drop}
+-- Words: IsTextAt, Skips, HasRead, ReadsOne, PausesAt, Advances.
+use Rattle.std.specs.Prelude.{◌≡◌, IsTrue, ℕ, ℤ, ◌+◌, ◌-◌, ◌^◌, ◌<◌, ◌≤◌, Bool, true, false, List, [], ◌∷◌, ◌++◌, length, take, drop}
 use Rattle.std.specs.Prelude.{Option, Some, None, IfSome, Result, Ok, Err, ◌⊎◌}
 use Rattle.std.specs.Borrow.{Bor}
 use Rattle.m4_state.specs.State.{diverted, appended}
 use Rattle.m4_state.specs.declared.fault.StateFault.{StateFault}
-use Rattle.m4_frozen.specs.Ascii.{newline}
+use Rattle.m4_frozen.specs.Ascii.{newline, comma, letter_T}
 use Rattle.m4_frozen.specs.declared.fault.FrozenKind.TheVariants as kinds
 use Rattle.m4_frozen.specs.declared.fault.ReadStop.{ReadStop}
 use Rattle.m4_frozen.specs.declared.fault.ReadStop.TheVariants as stops
@@ -16,10 +16,11 @@ use Rattle.m4_frozen.specs.declared.begun.Begun.TheVariants as begun
 use Rattle.m4_frozen.specs.declared.begun.NamedText.{NamedText}
 use Rattle.m4_frozen.specs.declared.loading.Loading.{Loading}
 use Rattle.m4_frozen.specs.declared.loading.Pause.{Pause}
-use Rattle.m4_frozen.specs.declared.long_texts.NamedPart.{NamedPart}
 use Rattle.m4_frozen.specs.Denote.{denote, issued_by}
 use Rattle.m4_frozen.specs.Directive.{Directive, Text, Diversion}
+use Rattle.m4_frozen.specs.Layout.{no_digit_first}
 use Rattle.m4_frozen.specs.Outcome.{Loads}
+use Rattle.m4_frozen.specs.Spells.{AreDigits, value_of}
 use Rattle.m4_frozen.specs.ReaderSteps.{◌>>=◌, skip_lines, string_at, expect_byte, directives_at, after_version}
 use Rattle.m4_frozen.specs.ReaderSteps.{next_at, file_at, is_settled}
 
@@ -27,21 +28,36 @@ use Rattle.m4_frozen.specs.ReaderSteps.{next_at, file_at, is_settled}
 abbrev pub IsAtDirective : Bool → List ℕ → Type 0
 IsAtDirective inside bytes = (bytes ≡ []) ⊎ ((inside ≡ false) × (skip_lines false bytes ≡ bytes))
 
--- a text, and the directive that pushes it on its name
-abbrev pub text_in : NamedPart → List ℕ
-text_in t = drop t.middle t.both.now
+-- the last ones of these bytes
+abbrev pub IsEndOf : List ℕ → List ℕ → Type 0
+IsEndOf rest all = (front : List ℕ) × (all ≡ front ++ rest)
 
-abbrev pub text_directive : NamedPart → Directive
-text_directive t = Text (take t.middle t.both.now) (text_in t)
+-- digits of a small value are at the start, and all the digits there are
+pub record BeginsWithNumber (n : ℕ) (bytes rest : List ℕ) : Type 0 where
+  pub digits : List ℕ
+  pub spelled : bytes ≡ digits ++ rest
+  pub are_digits : AreDigits digits
+  pub value : value_of digits ≡ n
+  pub few : n < 10 ^ 4
+  pub apart : IsTrue (no_digit_first rest)
 
--- the bytes begin with the directive of a text
-abbrev pub IsText : NamedPart → List ℕ → List ℕ → Type 0
-IsText t bytes after = IsAtDirective false bytes × (next_at bytes ≡ Ok (Some (text_directive t, after)))
+-- the first line of the directive of a text, with the two lengths, and so many bytes after it
+pub record IsTextLine (middle len after : ℕ) (line : List ℕ) : Type 0 where
+  pub numbers : List ℕ
+  pub second : List ℕ
+  pub rest : List ℕ
+  pub spelled : line ≡ letter_T ∷ numbers
+  pub name_length : BeginsWithNumber middle numbers (comma ∷ second)
+  pub text_length : BeginsWithNumber len second (newline ∷ rest)
+  pub left : length rest ≡ after
 
--- they begin with the directives of texts, one directly after another
-abbrev pub AreTexts : List NamedPart → List ℕ → List ℕ → Type 0
-AreTexts [] bytes after = bytes ≡ after
-AreTexts (t ∷ ts) bytes after = (rest : List ℕ) × IsText t bytes rest × AreTexts ts rest after
+-- the bytes begin with the directive of a text, whose strings begin these ones
+pub record IsTextAt (middle len : ℕ) (strings bytes : List ℕ) : Type 0 where
+  pub line : List ℕ
+  pub spelled : bytes ≡ line ++ strings
+  pub within : middle + len < length strings
+  pub at : IsAtDirective false bytes
+  pub gives : next_at bytes ≡ Ok (Some (Text (take middle strings) (take len (drop middle strings)), drop (middle + len + 1) strings))
 
 -- lines at the start are skipped: the rest is read as if it came after them
 pub record Skips (inside : Bool) (bytes : List ℕ) (later : Bool) (rest : List ℕ) : Type 0 where

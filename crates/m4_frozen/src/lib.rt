@@ -7,18 +7,19 @@
 //! Manual: "Frozen file format", "Fast loading of frozen state".
 #![tactic(auto)]
 
+mod account;
 mod begun;
 mod directive;
 pub mod fault;
-mod held;
+mod head;
 pub mod inspector;
 pub mod laws;
 mod lines;
 pub mod loading;
-mod long_texts;
 mod number;
 mod reader;
 pub mod reading;
+mod room;
 mod strings;
 mod window;
 pub mod writer;

@@ -9,11 +9,12 @@ ghost use Rattle.m4_frozen.specs.Directive as directives;
 ghost use Rattle.m4_frozen.specs.DirectiveView.{directive_of, IsJoined};
 ghost use Rattle.m4_frozen.specs.Underway as underway;
 
+use crate::account::Account;
 use crate::begun::{Begun, NamedText};
 use crate::directive::Directive;
 use crate::fault::{FrozenKind, ReadStop, Refusal, refused_at};
+use crate::head::text_at;
 use crate::lines::skip_lines;
-use crate::long_texts::{LARGEST_UNSHARED, NamedPart, push_texts, text_run};
 use crate::reader::{after_version, line_after, next_directive, stays};
 use crate::strings::{diversion_head, expect_byte, pair_head};
 use m4_state::builtin::Builtin;
@@ -106,29 +107,42 @@ impl Loading {
     ///
     /// A refusal stays, whatever follows. After an error, a directive may be applied in part, and there
     /// must be no further call.
-    pub(crate) fn advance(&mut self, alloc: Global, bytes: &[u8]) -> Result<Pause, ReadStop>
-        ensures { underway.ReadsOn (λ read. underway.IsRead read self.old) bytes.now self.new result }
+    pub(crate) fn advance(
+        &mut self,
+        alloc: Global,
+        block: &Bytes,
+        account: &mut Account,
+    ) -> Result<Pause, ReadStop>
+        ensures { underway.ReadsOn (λ read. underway.IsRead read self.old) block.now self.new result }
     {
+        let bytes = block.as_slice();
         match self.begun.take() {
-            None => self.read_whole(alloc, bytes),
+            None => self.read_whole(alloc, block, account, bytes),
             Some(Begun::Diversion(missing)) => {
                 let after = self.read_diverted(missing, bytes)?;
-                self.read_after(alloc, after)
+                self.read_after(alloc, block, account, after)
             }
             Some(Begun::Name(text)) => {
                 let after = self.read_named(text, bytes)?;
-                self.read_after(alloc, after)
+                self.read_after(alloc, block, account, after)
             }
         }
     }
 
     /// Reads the bytes after a text, or pauses if the text is not complete.
-    fn read_after(&mut self, alloc: Global, after: Option<&[u8]>) -> Result<Pause, ReadStop>
+    fn read_after(
+        &mut self,
+        alloc: Global,
+        block: &Bytes,
+        account: &mut Account,
+        after: Option<&[u8]>,
+    ) -> Result<Pause, ReadStop>
         requires whole { IfSome after (λ _. self.old.begun ≡ None) }
+        requires end { IfSome after (λ bytes. underway.IsEndOf bytes.now block.now) }
         ensures { underway.ReadsRest after.entry self.old self.new result }
     {
         match after {
-            Some(after) => self.read_whole(alloc, after),
+            Some(after) => self.read_whole(alloc, block, account, after),
             None => Ok(Pause {
                 left: 0,
                 refusal: Some(refused_at(FrozenKind::PrematureEnd, &[])),
@@ -137,13 +151,23 @@ impl Loading {
     }
 
     /// Reads everything that is complete, if no text is open.
-    fn read_whole(&mut self, alloc: Global, bytes: &[u8]) -> Result<Pause, ReadStop>
+    fn read_whole(
+        &mut self,
+        alloc: Global,
+        block: &Bytes,
+        account: &mut Account,
+        bytes: &[u8],
+    ) -> Result<Pause, ReadStop>
         requires whole { self.old.begun ≡ None }
+        requires end { underway.IsEndOf bytes.now block.now }
         ensures { underway.Advances bytes.now self.old self.new result }
     {
         let mut rest = bytes;
         loop {
-            let (inside, here) = skip_lines(self.inside, rest);
+            let (inside, start) = skip_lines(self.inside, rest);
+            self.inside = inside;
+            let after = self.read_texts(block, account, start)?;
+            let (inside, here) = skip_lines(self.inside, after);
             self.inside = inside;
             let one = match self.read_one(alloc, here) {
                 Ok(one) => one,
@@ -159,6 +183,33 @@ impl Loading {
                 }
             }
         }
+    }
+
+    /// Reads the directives of texts at the start, as long as each is as most are. Returns the bytes after them.
+    fn read_texts<'a>(
+        &mut self,
+        block: &Bytes,
+        account: &mut Account,
+        bytes: &'a [u8],
+    ) -> Result<&'a [u8], StateFault>
+        requires at_directive { underway.IsAtDirective self.old.inside bytes.now }
+        requires end { underway.IsEndOf bytes.now block.now }
+        ensures { IfOk result (λ rest. underway.HasAdvanced bytes.now self.old self.new rest.now) }
+    {
+        if !self.versioned {
+            return Ok(bytes);
+        }
+        let all = block.as_slice().len();
+        let mut rest = bytes;
+        'texts: while let Some((middle, len, strings)) = text_at(rest) {
+            let at = all - strings.len();
+            self.state
+                .push_from_block(block, account.shares(), strings, at, middle, len)?;
+            account.count(middle);
+            account.count(len);
+            rest = strings.split_at(middle + len + 1).1;
+        }
+        Ok(rest)
     }
 
     /// Reads the version or a directive; the bytes begin with no line to skip. Returns the bytes after it,
@@ -188,15 +239,6 @@ impl Loading {
         match next_directive(bytes)? {
             None => Ok(None),
             Some((directive, after)) => {
-                if let Directive::Text(both, middle) = directive
-                    && both.len() - middle > LARGEST_UNSHARED
-                {
-                    let first = NamedPart { both, middle };
-                    let (texts, after) = text_run(alloc, first, bytes, after)?;
-                    let most = bytes.len().saturating_sub(after.len());
-                    push_texts(alloc, &mut self.state, &texts, most)?;
-                    return Ok(Some(after));
-                }
                 self.apply(alloc, &directive)?;
                 Ok(Some(after))
             }

@@ -3,13 +3,14 @@
 //! A number's value is checked before the byte that follows its digits. The fault of a number that is
 //! too large is at its first digit, or at its sign. Manual: "Frozen file format".
 
-ghost use Rattle.std.specs.Prelude.{◌≡◌, ◌<◌, ◌^◌, IsTrue, IfOk, IfSome, Ok};
+ghost use Rattle.std.specs.Prelude.{◌≡◌, ◌-◌, ◌<◌, ◌^◌, IsTrue, IfOk, IfSome};
 ghost use Rattle.std.specs.Option.{SomeIff};
 ghost use Rattle.std.specs.List.{list_all};
 ghost use Rattle.std.specs.Char.{is_ascii_digit};
 ghost use Rattle.m4_frozen.specs.Spells.{value_of};
 ghost use Rattle.m4_frozen.specs.ReaderSteps as steps;
 ghost use Rattle.m4_frozen.specs.StepOutcome.{Gives};
+ghost use Rattle.m4_frozen.specs.Underway.{BeginsWithNumber};
 
 use crate::fault::{FrozenKind, Refusal, refused_at};
 
@@ -87,28 +88,48 @@ pub(crate) fn length(bytes: &[u8]) -> Result<(u64, &[u8]), Refusal>
     }
 }
 
-/// Returns the value of one digit to three, if that many are at the start and another byte follows, and the bytes after
+/// Returns the value of a digit.
+#[inline(always)]
+fn digit(byte: u8) -> u64
+    requires { IsTrue (is_ascii_digit byte) }
+    ensures value { result ≡ byte - 48 }
+    ensures few { result < 10 }
+{
+    u64::from(byte - b'0')
+}
+
+/// Returns the value of one digit to four, if that many are at the start and another byte follows, and the bytes after
 /// them.
 #[inline(always)]
-fn few_digits(bytes: &[u8]) -> Option<(u64, &[u8])>
-    ensures { IfSome result (λ x. steps.length_at bytes.now ≡ Ok (x.0, x.1.now)) }
+pub(crate) fn few_digits(bytes: &[u8]) -> Option<(u64, &[u8])>
+    ensures { IfSome result (λ x. BeginsWithNumber x.0 bytes.now x.1.now) }
 {
     match bytes {
         [a, b, ..] if a.is_ascii_digit() && !b.is_ascii_digit() => {
-            Some((u64::from(*a - b'0'), bytes.split_at(1).1))
+            Some((digit(*a), bytes.split_at(1).1))
         }
-        [a, b, c, ..] if a.is_ascii_digit() && b.is_ascii_digit() && !c.is_ascii_digit() => Some((
-            u64::from(*a - b'0') * 10 + u64::from(*b - b'0'),
-            bytes.split_at(2).1,
-        )),
+        [a, b, c, ..] if a.is_ascii_digit() && b.is_ascii_digit() && !c.is_ascii_digit() => {
+            Some((digit(*a) * 10 + digit(*b), bytes.split_at(2).1))
+        }
         [a, b, c, d, ..]
             if a.is_ascii_digit()
                 && b.is_ascii_digit()
                 && c.is_ascii_digit()
                 && !d.is_ascii_digit() => {
             Some((
-                u64::from(*a - b'0') * 100 + u64::from(*b - b'0') * 10 + u64::from(*c - b'0'),
+                digit(*a) * 100 + digit(*b) * 10 + digit(*c),
                 bytes.split_at(3).1,
+            ))
+        }
+        [a, b, c, d, e, ..]
+            if a.is_ascii_digit()
+                && b.is_ascii_digit()
+                && c.is_ascii_digit()
+                && d.is_ascii_digit()
+                && !e.is_ascii_digit() => {
+            Some((
+                digit(*a) * 1000 + digit(*b) * 100 + digit(*c) * 10 + digit(*d),
+                bytes.split_at(4).1,
             ))
         }
         _ => None,

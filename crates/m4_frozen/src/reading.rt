@@ -9,9 +9,11 @@ ghost use Rattle.m4_frozen.specs.Outcome.{IfFault, IsFaultOf, Loads};
 ghost use Rattle.m4_frozen.specs.Spells.{Spells};
 ghost use Rattle.m4_frozen.specs.declared.fault.FrozenKind.TheVariants as kinds;
 
+use crate::account::Account;
 use crate::fault::{FrozenFault, ReadStop, no_memory};
 use crate::loading::{Loaded, Loading, Pause};
-use crate::window::{BlockRead, Window};
+use crate::room::BlockRead;
+use crate::window::Window;
 use m4_state::device::ByteSource;
 use std::alloc::Global;
 
@@ -41,13 +43,14 @@ pub fn read_frozen<R: ByteSource>(alloc: Global, reader: &mut R) -> Result<Loade
         → R.failures reader.new ≡ one_more (R.failures reader.old)) }
     ensures unfailed { OnOk result (R.failures reader.new ≡ R.failures reader.old) }
 {
-    let mut window = Window::new(alloc);
+    let mut window = Window::new();
     let mut loading = Loading::new(alloc)?;
+    let mut account = Account::new();
     loop {
-        let after = window.fill(reader)?;
-        let pause = read_window(alloc, &mut loading, &window)?;
+        let after = window.fill(alloc, account.block_len(), reader)?;
+        let pause = read_window(alloc, &mut loading, &mut account, &window)?;
         match after {
-            BlockRead::More => window.keep_last(pause.left),
+            BlockRead::More => window.keep_last(pause.left)?,
             BlockRead::End => return end(loading, pause, &window),
             BlockRead::Failure => return failed(&window),
         }
@@ -55,11 +58,20 @@ pub fn read_frozen<R: ByteSource>(alloc: Global, reader: &mut R) -> Result<Loade
 }
 
 /// Reads what is complete in a window. A returned fault stays, whatever follows.
-fn read_window(alloc: Global, loading: &mut Loading, window: &Window) -> Result<Pause, FrozenFault>
+fn read_window(
+    alloc: Global,
+    loading: &mut Loading,
+    account: &mut Account,
+    window: &Window,
+) -> Result<Pause, FrozenFault>
     ensures { blocks.ReadsWindow window.now loading.old loading.new result }
 {
-    match loading.advance(alloc, window.bytes()) {
-        Ok(pause) => Ok(pause),
+    account.begin();
+    match loading.advance(alloc, window.bytes(), account) {
+        Ok(pause) => {
+            account.end(window.len());
+            Ok(pause)
+        }
         Err(ReadStop::OutOfMemory) => Err(no_memory()),
         Err(ReadStop::Refused(refusal)) => Err(window.fault_of(refusal)),
     }

@@ -1,57 +1,52 @@
 //! The bytes of a file that were read from the device and not used yet.
 
-ghost use Rattle.std.specs.Prelude.{◌≡◌, ◌+◌, ◌++◌, ◌-◌, ◌*◌, ◌^◌, ◌<◌, ◌≤◌, [], min, length, drop, IfOk};
+ghost use Rattle.std.specs.Prelude.{◌≡◌, ◌+◌, ◌++◌, ◌-◌, ◌*◌, ◌^◌, ◌<◌, ◌≤◌, [], min, length, drop, IfOk, OnOk};
 ghost use Rattle.m4_frozen.specs.Blocks as blocks;
 ghost use Rattle.m4_frozen.specs.FaultAt.{as_offset};
 ghost use Rattle.m4_frozen.specs.declared.fault.FrozenKind.TheVariants as kinds;
-ghost use Rattle.m4_frozen.specs.declared.window.BlockRead.TheVariants as marks;
+ghost use Rattle.m4_frozen.specs.declared.room.BlockRead.TheVariants as marks;
 
 use crate::fault::{FrozenFault, FrozenKind, Refusal};
-use crate::held::{BLOCK, Held};
-use m4_state::device::{ByteSource, DeviceFault};
+use crate::room::{BlockRead, fill_room};
+use m4_state::bytes::Bytes;
+use m4_state::device::ByteSource;
 use std::alloc::{AllocError, Global};
 
-/// What the reader returns next, as far as is known.
-#[derive(Clone, Copy)]
-pub(crate) enum BlockRead {
-    /// Perhaps more bytes.
-    More,
-    /// The end of the file.
-    End,
-    /// A failure.
-    Failure,
-}
-
-/// The last bytes that were read, and how many were dropped before them. That count stays at its greatest
-/// value.
+/// The last bytes that were read, which strings may share, and how many were dropped before them. That count stays at
+/// its greatest value.
 #[derive(Drop)]
 pub(crate) struct Window {
-    bytes: Held,
+    bytes: Bytes,
     dropped: u64,
 }
 
 impl Window {
     /// Returns an empty window: no byte was read.
-    pub(crate) fn new(alloc: Global) -> Window
+    pub(crate) fn new() -> Window
         ensures bytes { result.bytes ≡ [] }
         ensures dropped { result.dropped ≡ 0 }
     {
         Window {
-            bytes: Held::new(alloc),
+            bytes: Bytes::empty(),
             dropped: 0,
         }
     }
 
     /// Returns the bytes.
-    pub(crate) fn bytes(&self) -> &[u8]
+    pub(crate) fn bytes(&self) -> &Bytes
         ensures { result.now ≡ self.now.bytes }
     {
-        self.bytes.as_slice()
+        &self.bytes
     }
 
-    /// Reads more bytes, at least as many as the window contains, so that the bytes parsed again are no
-    /// more than those that were read.
-    pub(crate) fn fill<R: ByteSource>(&mut self, reader: &mut R) -> Result<BlockRead, AllocError>
+    /// Reads more bytes, about `usual` and at least as many as the window contains, so that the bytes parsed again
+    /// are no more than those that were read. All are in a new block, which later ones do not write to.
+    pub(crate) fn fill<R: ByteSource>(
+        &mut self,
+        alloc: Global,
+        usual: usize,
+        reader: &mut R,
+    ) -> Result<BlockRead, AllocError>
         ensures takes { IfOk result (λ after. blocks.Fills self.old self.new
             (R.script reader.old) (R.script reader.new) after) }
         ensures counted { IfOk result (λ after. R.failures reader.new
@@ -61,28 +56,37 @@ impl Window {
         ensures doubles { IfOk result (λ after. after ≡ marks.More
             → min (length self.old.bytes * 2) (2 ^ 64 - 1) ≤ length self.new.bytes) }
     {
-        let enough = self.bytes().len().saturating_mul(2).max(BLOCK);
-        self.bytes.move_to_front();
-        loop {
-            match self.bytes.take_from(reader)? {
-                Ok(0) => return Ok(BlockRead::End),
-                Ok(_) => {}
-                Err(DeviceFault) => return Ok(BlockRead::Failure),
-            }
-            if self.bytes().len() >= enough {
-                return Ok(BlockRead::More);
-            }
-        }
+        let left = self.bytes.as_slice();
+        let enough = left.len().saturating_add(left.len().max(usual));
+        let mut room = Vec::with_capacity(alloc, enough)?;
+        room.extend_from_slice(left)?;
+        // Frees the last block, unless strings share it.
+        self.bytes = Bytes::empty();
+        let (after, end) = fill_room(&mut room, enough, reader)?;
+        room.truncate(end);
+        room.shrink_to_fit();
+        self.bytes = Bytes::from_vec(room)?;
+        Ok(after)
     }
 
     /// Drops all bytes but the last `count`.
-    pub(crate) fn keep_last(&mut self, count: usize)
+    pub(crate) fn keep_last(&mut self, count: usize) -> Result<(), AllocError>
         requires { count ≤ length self.old.bytes }
-        ensures bytes { self.new.bytes ≡ drop (length self.old.bytes - count) self.old.bytes }
-        ensures dropped { self.new.dropped ≡ as_offset (self.old.dropped + (length self.old.bytes - count)) }
+        ensures bytes { OnOk result (self.new.bytes ≡ drop (length self.old.bytes - count) self.old.bytes) }
+        ensures dropped { OnOk result (self.new.dropped
+            ≡ as_offset (self.old.dropped + (length self.old.bytes - count))) }
     {
-        self.dropped = self.offset_of(self.bytes().len() - count);
-        self.bytes.keep_last(count);
+        let used = self.len() - count;
+        self.dropped = self.offset_of(used);
+        self.bytes = self.bytes.part(used, count)?;
+        Ok(())
+    }
+
+    /// Returns how many bytes there are.
+    pub(crate) fn len(&self) -> usize
+        ensures { result ≡ length self.now.bytes }
+    {
+        self.bytes.as_slice().len()
     }
 
     /// Returns the offset of the byte after the first `count` bytes of the window.
@@ -101,7 +105,7 @@ impl Window {
     {
         FrozenFault {
             kind: refusal.kind,
-            offset: self.offset_of(self.bytes().len().saturating_sub(refusal.bytes_left)),
+            offset: self.offset_of(self.len().saturating_sub(refusal.bytes_left)),
         }
     }
 
@@ -111,7 +115,7 @@ impl Window {
     {
         FrozenFault {
             kind: FrozenKind::Read,
-            offset: self.offset_of(self.bytes().len()),
+            offset: self.offset_of(self.len()),
         }
     }
 }

@@ -1,9 +1,10 @@
 -- Names that are compared as numbers: words of eight bytes compare as the bytes do.
-use Rattle.std.proofs.Common.{◌≡◌, ℕ, zero, suc, ◌+◌, ◌*◌, ◌<◌, ◌≤◌, List, [], ◌∷◌, length, get_or, take, drop, drop-cons, Ordering, Less, Equal, Greater, refl, sym, ap, subst, ◌∙◌, arith}
+use Rattle.std.proofs.Common.{◌≡◌, ℕ, zero, suc, ◌+◌, ◌*◌, ◌<◌, ◌≤◌, List, [], ◌∷◌, ◌++◌, length, get_or, take, drop, drop-cons, Ordering, Less, Equal, Greater, refl, sym, ap, subst, ◌∙◌, arith}
 use Rattle.std.specs.Ordering.{nat_cmp, ordering_then, MatchOrdering}
 use Rattle.std.specs.Cmp.{ranks}
 use Rattle.std.specs.Cmp.Lexicographic.{slice_cmp}
-use Rattle.std.proofs.lemmas.List.{length-drop, get_or-drop}
+use Rattle.std.proofs.Math.Seq.{take-add}
+use Rattle.std.proofs.lemmas.List.{length-drop, get_or-drop, take_all}
 use Rattle.m4_state.specs.ByteWords.{word, AreBytes, filled, IsRank}
 
 -- ---- how two numbers compare
@@ -127,6 +128,16 @@ filled_decide (suc n) (x ∷ xs) (y ∷ ys) f = by (nat_cmp x y) (ranks x y) (fi
     by Greater l rest = refl
     by Equal l rest = let level : x ≡ y = l in rest (λ s. f (λ j. level j ∷ s j))
 
+-- a long name fills all of them
+filled_front : (n : ℕ) (xs : List ℕ) → n ≤ length xs → filled n xs ≡ take n xs
+filled_front zero xs le = refl
+filled_front (suc n) [] le = absurd (omega arith)
+filled_front (suc n) (x ∷ xs) le = ap (λ (l : List ℕ). x ∷ l) (filled_front n xs (omega arith))
+
+-- sixteen bytes are two words
+two_words : (xs : List ℕ) → length xs ≡ 16 → take 8 xs ++ take 8 (drop 8 xs) ≡ xs
+two_words xs e = sym (take-add 8 8 xs) ∙ take_all 16 xs (omega arith)
+
 module _ (xs ys : List ℕ) (a b c d : ℕ) (rx : IsRank xs a b) (ry : IsRank ys c d) where
   -- first numbers that differ decide
   pub first_decides : (a ≡ c → ⊥) → nat_cmp a c ≡ slice_cmp nat_cmp xs ys
@@ -140,3 +151,13 @@ module _ (xs ys : List ℕ) (a b c d : ℕ) (rx : IsRank xs a b) (ry : IsRank ys
       let same = (words_at (filled 16 xs) (filled 16 ys) rx.bytes ry.bytes 0 (omega (arith, length-filled 16 xs)) (omega (arith, length-filled 16 ys)) refl).alike (sym rx.high ∙ e ∙ ry.high) in
       words_decide (filled 16 xs) (filled 16 ys) rx.bytes ry.bytes 8 b d (omega (arith, length-filled 16 xs)) (omega (arith, length-filled 16 ys)) same rx.low ry.low f
       ∙ filled_decide 16 xs ys (λ s. f (rx.low ∙ ap (λ l. word 0 (take 8 (drop 8 l))) s ∙ sym ry.low))
+
+  -- if those are equal too, long names compare as what follows
+  pub rest_decides : a ≡ c → b ≡ d → 16 ≤ length xs → 16 ≤ length ys → slice_cmp nat_cmp (drop 16 xs) (drop 16 ys) ≡ slice_cmp nat_cmp xs ys
+  rest_decides e f p q =
+      let high = (words_at (filled 16 xs) (filled 16 ys) rx.bytes ry.bytes 0 (omega (arith, length-filled 16 xs)) (omega (arith, length-filled 16 ys)) refl).alike (sym rx.high ∙ e ∙ ry.high) in
+      let low = (words_at (filled 16 xs) (filled 16 ys) rx.bytes ry.bytes 8 (omega (arith, length-filled 16 xs)) (omega (arith, length-filled 16 ys)) high).alike (sym rx.low ∙ f ∙ ry.low) in
+      let same : take 16 xs ≡ take 16 ys =
+      sym (filled_front 16 xs p) ∙ sym (two_words (filled 16 xs) (length-filled 16 xs)) ∙ (λ j. high j ++ low j)
+      ∙ two_words (filled 16 ys) (length-filled 16 ys) ∙ filled_front 16 ys q in
+      sym (past 16 xs ys p q same)

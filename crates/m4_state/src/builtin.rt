@@ -1,9 +1,10 @@
 //! The builtins that this processor has. If a frozen file names another builtin, it is kept as a
 //! placeholder. Manual: "Builtins".
 //!
-//! The table has one row for each builtin, here and in `specs/Builtin.antt`.
+//! The table has one row for each builtin, here and in `specs/Builtin.antt`. A look-up by name goes over the names that are
+//! as long.
 
-ghost use Rattle.std.specs.Prelude.{◌≡◌};
+ghost use Rattle.std.specs.Prelude.{◌≡◌, ◌==◌, length, filter};
 ghost use Rattle.m4_state.specs.Builtin.{called};
 
 use std::marker::Model;
@@ -114,7 +115,7 @@ fn called(
 }
 
 impl Builtin {
-    ghost use Rattle.m4_state.specs.Builtin.{row_of, builtin_named, name_of, needs_args, takes_tokens};
+    ghost use Rattle.m4_state.specs.Builtin.{row_of, table, builtin_named, name_of, needs_args, takes_tokens};
 
     /// All builtins.
     pub const TABLE: [Builtin; 29] = [
@@ -153,12 +154,50 @@ impl Builtin {
     pub fn by_name(name: &[u8]) -> Option<Builtin>
         ensures { result ≡ builtin_named name.now }
     {
-        for builtin in Builtin::TABLE {
+        for builtin in Builtin::of_length(name.len()) {
             if builtin.name() == name {
-                return Some(builtin);
+                return Some(*builtin);
             }
         }
         None
+    }
+
+    /// Returns the builtins whose names have that length: a look-up compares few names.
+    fn of_length(len: usize) -> &'static [Builtin]
+        ensures { result.now ≡ filter (λ b. length (name_of b) == len) table }
+    {
+        match len {
+            3 => &[Builtin::Dnl, Builtin::Len],
+            4 => &[Builtin::Defn, Builtin::Incr, Builtin::Decr, Builtin::Eval],
+            5 => &[
+                Builtin::Indir,
+                Builtin::Ifdef,
+                Builtin::Shift,
+                Builtin::Index,
+            ],
+            6 => &[
+                Builtin::Define,
+                Builtin::Popdef,
+                Builtin::Ifelse,
+                Builtin::Divert,
+                Builtin::Divnum,
+                Builtin::Substr,
+                Builtin::M4wrap,
+                Builtin::M4exit,
+            ],
+            7 => &[Builtin::Pushdef, Builtin::IndirBuiltin, Builtin::Dumpdef],
+            8 => &[
+                Builtin::Undefine,
+                Builtin::Undivert,
+                Builtin::Translit,
+                Builtin::Errprint,
+                Builtin::File,
+                Builtin::Line,
+            ],
+            9 => &[Builtin::Changecom],
+            11 => &[Builtin::Changequote],
+            _ => &[],
+        }
     }
 
     /// Returns the builtin's row.

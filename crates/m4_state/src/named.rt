@@ -82,7 +82,12 @@ pub(crate) fn order_of(a: &NamedStack, b: &NamedStack) -> Ordering
     if a.second != b.second {
         return a.second.cmp(&b.second);
     }
-    a.name().cmp(b.name())
+    let (a, b) = (a.name(), b.name());
+    if a.len() >= RANKED && b.len() >= RANKED {
+        // The numbers are equal, so the first bytes are.
+        return a.split_at(RANKED).1.cmp(b.split_at(RANKED).1);
+    }
+    a.cmp(b)
 }
 
 /// Returns the first bytes of a name, and zeros where it has none.

@@ -5,7 +5,7 @@
 //! each call defines the complete new record; if an allocation fails, the state is unchanged.
 
 ghost use Rattle.m4_state.specs.Fresh.{fresh_name};
-ghost use Rattle.std.specs.Prelude.{◌≡◌, ◌≢◌, ◌≤◌, ◌∷◌, [], IfOk, IfSome, IfNone, OnOk, OnErr, length, take, drop};
+ghost use Rattle.std.specs.Prelude.{◌≡◌, ◌≢◌, ◌<◌, ◌≤◌, ◌+◌, ◌^◌, ◌∷◌, [], IfOk, IfSome, IfNone, OnOk, OnErr, length, take, drop};
 ghost use Rattle.std.specs.Prelude.{option_copied, option_map, true};
 
 use crate::builtin::Builtin;
@@ -204,6 +204,31 @@ impl State {
         ensures err { OnErr result (self.new ≡ self.old) }
     {
         self.table.push_text(bytes, middle)?;
+        Ok(())
+    }
+
+    /// Pushes the `len` bytes after the first `middle` of `strings`, as a text, on the definitions of the name that those
+    /// are. The strings begin at the place `at` of a block. If they are to share its memory, a long one is a part of it.
+    #[doc(hidden)]
+    #[inline(always)]
+    pub fn push_from_block(
+        &mut self,
+        block: &Bytes,
+        shares: bool,
+        strings: &[u8],
+        at: usize,
+        middle: usize,
+        len: usize,
+    ) -> Result<(), StateFault>
+        requires within { at + middle + len ≤ length block.now }
+        requires counted { length block.now < 2 ^ 64 }
+        requires place { strings.now ≡ drop at block.now }
+        ensures ok { OnOk result (self.new ≡ pushed self.old (take middle strings.now)
+            (defs.Text (take len (drop middle strings.now)))) }
+        ensures err { OnErr result (self.new ≡ self.old) }
+    {
+        self.table
+            .push_from_block(block, shares, strings, at, middle, len)?;
         Ok(())
     }
 

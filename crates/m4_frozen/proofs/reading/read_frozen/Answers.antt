@@ -68,7 +68,7 @@ loop-loading-preserved g c = (
       (filled (g.R.ByteSource.script c.args.reader.now) (g.R.ByteSource.script c.loop-loading.reader)
       (g.R.ByteSource.script c.fill.new.reader) c.loop-loading.window c.fill.new.self c.loop-loading.loading
       c.loop-loading.invariant.0 c.in_ok-after.ensures.takes.0)
-      c.in_ok-pause.ensures c.keep_last.ensures.bytes c.keep_last.ensures.dropped,
+      c.in_ok-pause.ensures c.in_ok-keep_last-in-More.ensures.bytes c.in_ok-keep_last-in-More.ensures.dropped,
   (rw c.in-More.is at c.in_ok-after.ensures.counted) ∙ c.loop-loading.invariant.1,
 )
 

@@ -1,12 +1,8 @@
 -- A directive is read, or refused, whatever was read before it.
-use Rattle.std.proofs.Common.{List, map, refl, ap, ◌∙◌}
-use Rattle.std.specs.Prelude.{fold}
-use Rattle.m4_frozen.specs.Denote.{with_directive}
-use Rattle.m4_frozen.specs.Underway.{text_directive}
-use Rattle.m4_frozen.specs.declared.long_texts.NamedPart.{NamedPart}
+use Rattle.std.proofs.Common.{refl}
 use Rattle.std.proofs.lemmas.Result.{err_from_is_err_and}
 use Rattle.m4_frozen.specs.DirectiveView.{directive_of}
-use Rattle.m4_frozen.proofs.ReadOn.{has_read_directive, directive_left, directive_refused, read_all_texts}
+use Rattle.m4_frozen.proofs.ReadOn.{has_read_directive, directive_left, directive_refused}
 use Rattle.m4_frozen.proofs.ReadOn.{nothing_left}
 use Rattle.m4_frozen.proofs.loading.Loading.read_directive.Goals as goal
 
@@ -34,9 +30,3 @@ returns-in_ok-apply-in-Some c =
     c.args.self.now c.apply.new.self c.requires.at_directive c.requires.versioned
     (rw c.in-Some.is at c.in_ok-next_directive.ensures.gives)
     c.in_ok-apply-in-Some.ensures.applied c.in_ok-apply-in-Some.ensures.issued
-
--- texts, one directly after another
-pub returns-in-Some : goal.returns-in-Some
-returns-in-Some c =
-    read_all_texts c.in_ok-texts-in-Some.texts.items c.args.bytes.now c.in_ok-texts-in-Some.after.now c.args.self.now c.push_texts.new.state c.in_ok-texts-in-Some.ensures.some
-    c.requires.at_directive c.requires.versioned c.in_ok-texts-in-Some.ensures.texts (c.in_ok-push_texts-in-Some.ensures ∙ ap (λ (ts : List NamedPart). fold with_directive c.args.self.now.state (map text_directive ts)) c.deref.ensures.value)
