@@ -240,7 +240,14 @@ fn follow_from<W: World, O: Shows, M: Shows>(
         → AllShown O.shown O.contents M.shown M.contents W.kept W.files out.new messages.new result.world }
 {
     let ran = run_line(alloc, line, frozen, world, out, messages);
-    close(ran.ending, file, frozen_name(line), ran.world, out, messages)
+    close(
+        ran.ending,
+        file,
+        frozen_name(line),
+        ran.world,
+        out,
+        messages,
+    )
 }
 
 /// Returns the name of the file to which a line freezes; it is empty if there is none.

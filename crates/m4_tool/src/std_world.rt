@@ -126,7 +126,14 @@ impl<'a, R: Files + Alloc<A = Global>, I, W, E> StdWorld<'a, R, I, W, E> {
         ensures out_of_memory { IfErr result (λ error. error_kind error ≡ ErrorKind.OutOfMemory) }
         ensures failures { IfOk result (λ world. world.failures ≡ 0) }
     {
-        let made = BufWriter::with_capacity(rt.alloc(), FROZEN_BUFFER, Made { file: None, begins: Begins::AsWritten })?;
+        let made = BufWriter::with_capacity(
+            rt.alloc(),
+            FROZEN_BUFFER,
+            Made {
+                file: None,
+                begins: Begins::AsWritten,
+            },
+        )?;
         Ok(StdWorld {
             rt,
             input,
@@ -193,7 +200,10 @@ fn create_file<R: Files>(rt: &R, path: &str) -> io::Result<(<R as Files>::File, 
 }
 
 /// Flushes the file that was made, and then writes its true first byte, unless a write of it has failed.
-fn flush_unmarked<F: Write + Seek + Drop>(made: &mut BufWriter<Made<F>>, failed: bool) -> io::Result<()> {
+fn flush_unmarked<F: Write + Seek + Drop>(
+    made: &mut BufWriter<Made<F>>,
+    failed: bool,
+) -> io::Result<()> {
     made.flush()?;
     if failed {
         return Err(io::Error::from(ErrorKind::Other));

@@ -10,7 +10,7 @@ invariant_of-self-in-Ok-1 g c =
     let b = begun_so g.K.LateStart.name g.K.LateStart.before (g.W.World.files s.world) (g.W.World.files c.create_once.new.world) s.created c.as_slice.result.now c.create_once.result s.agrees (λ f e. c.as_slice.ensures.value ∙ s.named f e) (search rules) c.create_once.ensures.begun in
     let more = take c.in-Ok.n c.args.bytes.now in
     let m = put_marked g.K.LateStart.name c.as_slice.result.now c.as_slice-2.result.now g.K.LateStart.kept (g.W.World.kept s.world) (g.W.World.kept c.create_once.new.world) (g.W.World.kept c.append.new.self) s.created c.create_once.result s.keeps s.marked
-        (λ f e. c.as_slice.ensures.value ∙ s.kept_named f e) (λ f e. c.as_slice-2.ensures.value ∙ s.kept_named f e) (search rules) c.create_once.ensures.marked c.create_once.ensures.still_marked c.append.ensures.marked in
+    (λ f e. c.as_slice.ensures.value ∙ s.kept_named f e) (λ f e. c.as_slice-2.ensures.value ∙ s.kept_named f e) (search rules) c.create_once.ensures.marked c.create_once.ensures.still_marked c.append.ensures.marked in
     let same : g.W.World.failures c.append.new.self ≡ g.W.World.failures s.world = search rules in
     record {
       named = s.named;
@@ -27,14 +27,14 @@ pub invariant_of-self-in-Err-clause-keeps : goal.invariant_of-self-in-Err-clause
 invariant_of-self-in-Err-clause-keeps g c =
     let s = c.args.self.now in
     let m = put_marked g.K.LateStart.name c.as_slice.result.now c.as_slice-2.result.now g.K.LateStart.kept (g.W.World.kept s.world) (g.W.World.kept c.create_once.new.world) (g.W.World.kept c.append.new.self) s.created c.create_once.result s.keeps s.marked
-        (λ f e. c.as_slice.ensures.value ∙ s.kept_named f e) (λ f e. c.as_slice-2.ensures.value ∙ s.kept_named f e) (search rules) c.create_once.ensures.marked c.create_once.ensures.still_marked c.append.ensures.marked in
+    (λ f e. c.as_slice.ensures.value ∙ s.kept_named f e) (λ f e. c.as_slice-2.ensures.value ∙ s.kept_named f e) (search rules) c.create_once.ensures.marked c.create_once.ensures.still_marked c.append.ensures.marked in
     marked_stands g.K.LateStart.name g.K.LateStart.kept (g.W.World.kept c.append.new.self) m
 
 pub invariant_of-self-in-Err-clause-marked : goal.invariant_of-self-in-Err-clause-marked
 invariant_of-self-in-Err-clause-marked g c =
     let s = c.args.self.now in
     let m = put_marked g.K.LateStart.name c.as_slice.result.now c.as_slice-2.result.now g.K.LateStart.kept (g.W.World.kept s.world) (g.W.World.kept c.create_once.new.world) (g.W.World.kept c.append.new.self) s.created c.create_once.result s.keeps s.marked
-        (λ f e. c.as_slice.ensures.value ∙ s.kept_named f e) (λ f e. c.as_slice-2.ensures.value ∙ s.kept_named f e) (search rules) c.create_once.ensures.marked c.create_once.ensures.still_marked c.append.ensures.marked in
+    (λ f e. c.as_slice.ensures.value ∙ s.kept_named f e) (λ f e. c.as_slice-2.ensures.value ∙ s.kept_named f e) (search rules) c.create_once.ensures.marked c.create_once.ensures.still_marked c.append.ensures.marked in
     marked_text g.K.LateStart.name g.K.LateStart.kept (g.W.World.kept c.append.new.self) m
 
 pub invariant_of-self-in-Err-clause-agrees : goal.invariant_of-self-in-Err-clause-agrees
