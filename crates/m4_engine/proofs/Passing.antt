@@ -421,15 +421,15 @@ pub measure_less : (looked k : ℕ) (p q : Pending) → looked ≤ length (text_
 measure_less looked k p q l e = measure_falls (length (text_of q)) (length (text_of p)) looked k l e.0 e.1
 
 -- a pass over a text in front of an input
-module _ (a : Lookahead) (old new : Engine) (i j : Held) (looked n : ℕ) (x : List ℕ) (others more : Bool)
+module _ (a : Lookahead) (c : Call) (old new : Engine) (i j : Held) (looked n : ℕ) (x : List ℕ) (others more : Bool)
     (m : more ≡ (others || (i.pending).may_follow)) (h : IsInFront i.pending x (others || (i.pending).may_follow))
     (longer : others ≡ true → looked < length x) (d : (i.pending).definition ≡ None)
-    (r : PassesBy n a x more old new) (g : j ≡ record i { pending = consumed n i.pending }) where
+    (r : PassesBy n a c x more old new) (g : j ≡ record i { pending = consumed n i.pending }) where
   abbrev ends : Type 0
-  ends = ((0 < n) × (a ≡ aheads.Further)) ⊎ IsAhead a new.state (allows_call new) (others || (i.pending).may_follow) (drop n x)
+  ends = ((0 < n) × (a ≡ aheads.Further)) ⊎ IsAhead a c new.state (allows_call new) (others || (i.pending).may_follow) (drop n x)
 
   ends_so : ends
-  ends_so = subst (λ (v : Bool). ((0 < n) × (a ≡ aheads.Further)) ⊎ IsAhead a new.state (allows_call new) v (drop n x)) m r.end
+  ends_so = subst (λ (v : Bool). ((0 < n) × (a ≡ aheads.Further)) ⊎ IsAhead a c new.state (allows_call new) v (drop n x)) m r.end
 
   front_once : PassesOnce old new i j
   front_once = passes_text old new i j (others || (i.pending).may_follow) n x h d r.within (subst (λ (v : Bool). PassesText v n x old new) m r.passes) g
@@ -457,41 +457,41 @@ module _ (a : Lookahead) (old new : Engine) (i j : Held) (looked n : ℕ) (x : L
       by : ends → (length (text_of (consumed n i.pending)) < length (text_of i.pending))
           ⊎ ((length (text_of (consumed n i.pending)) ≡ length (text_of i.pending)) × (looked < 0))
       by (inl e) = inl (front_less i.pending (others || (i.pending).may_follow) n x h e.0 r.within)
-      by (inr e) = absurd (subst (λ (v : Lookahead). IsAhead v new.state (allows_call new) (others || (i.pending).may_follow) (drop n x)) f e)
+      by (inr e) = absurd (subst (λ (v : Lookahead). IsAhead v c new.state (allows_call new) (others || (i.pending).may_follow) (drop n x)) f e)
 
   -- a token was found
-  front_found : (others ≡ false → x ≡ text_of i.pending) → (a ≡ aheads.Undecided → others ≡ false) → (a ≡ aheads.Further → ⊥) → IsLookahead a new j.pending
-  front_found all u f = subst (λ (v : Held). IsLookahead a new v.pending) (sym g) (by ends_so)
+  front_found : (others ≡ false → x ≡ text_of i.pending) → (a ≡ aheads.Undecided → others ≡ false) → (a ≡ aheads.Further → ⊥) → IsLookahead a c new j.pending
+  front_found all u f = subst (λ (v : Held). IsLookahead a c new v.pending) (sym g) (by ends_so)
     where
-      by : ends → IsLookahead a new (consumed n i.pending)
+      by : ends → IsLookahead a c new (consumed n i.pending)
       by (inl e) = absurd (f e.1)
-      by (inr e) = ahead_front a new.state (allows_call new) i.pending others n x h all r.within u e
+      by (inr e) = ahead_front a c new.state (allows_call new) i.pending others n x h all r.within u e
 
 -- what a pass over the front of an input did: `others` come after the bytes that it looked at, of which `left` are left
-pub record PassesFront (a : Lookahead) (looked left : ℕ) (others : Bool) (old new : Engine) (i j : Held) : Type 0 where
+pub record PassesFront (a : Lookahead) (c : Call) (looked left : ℕ) (others : Bool) (old new : Engine) (i j : Held) : Type 0 where
   pub once : PassesOnce old new i j
   pub undecided : others ≡ true → IsFurther left looked i.pending j.pending
   pub further : a ≡ aheads.Further → IsFurther 0 looked i.pending j.pending
-  pub found : (a ≡ aheads.Undecided → others ≡ false) → (a ≡ aheads.Further → ⊥) → IsLookahead a new j.pending
+  pub found : (a ≡ aheads.Undecided → others ≡ false) → (a ≡ aheads.Further → ⊥) → IsLookahead a c new j.pending
 
-pub passes_front : (a : Lookahead) (old new : Engine) (i j : Held) (looked n : ℕ) (text : Bor (List ℕ)) (others more : Bool)
+pub passes_front : (a : Lookahead) (c : Call) (old new : Engine) (i j : Held) (looked n : ℕ) (text : Bor (List ℕ)) (others more : Bool)
     (o : Option (Bor (List ℕ) × Bool)) → o ≡ Some (text, others) → more ≡ (others || (i.pending).may_follow)
     → IfSome o (λ r. IsInFront i.pending r.0.now (r.1 || (i.pending).may_follow))
     → IfSome o (λ r. r.1 ≡ false → r.0.now ≡ text_of i.pending)
     → IfSome o (λ r. r.1 ≡ true → looked < length r.0.now)
     → IfSome o (λ r. (i.pending).definition ≡ None)
-    → PassesBy n a text.now more old new → j ≡ record i { pending = consumed n i.pending }
-    → PassesFront a looked (length text.now - n) others old new i j
-passes_front a old new i j looked n text others more o is m h all longer d r g =
+    → PassesBy n a c text.now more old new → j ≡ record i { pending = consumed n i.pending }
+    → PassesFront a c looked (length text.now - n) others old new i j
+passes_front a c old new i j looked n text others more o is m h all longer d r g =
     let h = subst (λ (o : Option (Bor (List ℕ) × Bool)). IfSome o (λ r. IsInFront i.pending r.0.now (r.1 || (i.pending).may_follow))) is h in
     let all = subst (λ (o : Option (Bor (List ℕ) × Bool)). IfSome o (λ r. r.1 ≡ false → r.0.now ≡ text_of i.pending)) is all in
     let longer = subst (λ (o : Option (Bor (List ℕ) × Bool)). IfSome o (λ r. r.1 ≡ true → looked < length r.0.now)) is longer in
     let d = subst (λ (o : Option (Bor (List ℕ) × Bool)). IfSome o (λ r. (i.pending).definition ≡ None)) is d in
     record {
-      once = front_once a old new i j looked n text.now others more m h longer d r g;
-      undecided = front_open a old new i j looked n text.now others more m h longer d r g;
-      further = front_further a old new i j looked n text.now others more m h longer d r g;
-      found = front_found a old new i j looked n text.now others more m h longer d r g all;
+      once = front_once a c old new i j looked n text.now others more m h longer d r g;
+      undecided = front_open a c old new i j looked n text.now others more m h longer d r g;
+      further = front_further a c old new i j looked n text.now others more m h longer d r g;
+      found = front_found a c old new i j looked n text.now others more m h longer d r g all;
     }
 
 -- a further pass over a front

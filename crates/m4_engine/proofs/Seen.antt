@@ -1,10 +1,12 @@
 -- Seen: what was seen of the first token of a text, as a turn takes it.
 use Rattle.std.proofs.Common.{◌≡◌, Some, None, ℕ, Bool, true, false, List, [], ◌∷◌, ◌++◌, append-nil, append_assoc, refl}
-use Rattle.std.proofs.Common.{sym, ap, ◌∙◌, subst, drop}
+use Rattle.std.proofs.Common.{sym, ap, ◌∙◌, subst, drop, Option, ◌<◌, arith}
+use Rattle.m4_state.specs.declared.definition.Def.{Def}
+use Rattle.m4_input.specs.declared.front.Answer.TheVariants.{Yes}
 use Rattle.std.specs.Prelude.{suc, nat_lt, not, ◌&&◌, length, Result, Ok, Err, IfOk}
 use Rattle.m4_state.specs.State.{State}
 use Rattle.m4_input.specs.Pending.{Pending, text_of, consumed}
-use Rattle.m4_input.specs.Paren.{paren_in, paren_at}
+use Rattle.m4_input.specs.Paren.{paren_in, paren_from, paren_at}
 use Rattle.m4_input.specs.declared.front.Answer.{Answer}
 use Rattle.m4_input.specs.Input.{answer_of, longer}
 use Rattle.m4_input.proofs.Parts.{drop_parts}
@@ -58,25 +60,38 @@ list_there q c p r n v g k =
     ∙ ap (paren_in q c p.may_follow) (sym (drop_parts n p.pushed p.unread))
     ∙ k
 
+-- a list follows, so a byte does
+pub list_text : (q c : Delimiters) (p : Pending) → paren_at q c p ≡ answer_of true → 0 < length (text_of p)
+list_text q c p e = by p.definition e
+  where
+    some : (v : Bool) (x : List ℕ) → paren_in q c v x ≡ Yes → 0 < length x
+    some true [] e = cc
+    some false [] e = cc
+    some v (b ∷ x) e = omega arith
+
+    by : (o : Option Def) → paren_from o q c p ≡ Yes → 0 < length (text_of p)
+    by (Some d) e = cc
+    by None e = some p.may_follow (text_of p) e
+
 -- a name that was consumed, as a turn takes it; q is pending after it
 module _ (may : Bool) (e e1 : Engine) (p q p' : Pending) (r : Result Turned TurnFault) (name : List ℕ) where
   abbrev pub NameMoves : Type 0
   NameMoves = IfOk r (λ u. Moves may e1 p' u (λ z more o l. step (outer_of e.open_calls) (take_name (top_of e.state name) name (longer z more q) (here_of o l e (longer z more p)))))
 
 -- a text that is called with no list
-pub expansion_moves : (e e1 : Engine) (x name : List ℕ) (p q p' : Pending) (r : Result Turned TurnFault)
+pub expansion_moves : (e e1 : Engine) (d : Call) (name : List ℕ) (p q p' : Pending) (r : Result Turned TurnFault)
     → q.definition ≡ None → paren_at (e.state).quotes (e.state).comments q ≡ answer_of false
-    → IsExpansion x e.state name
-    → IfOk r (λ u. (c : Call) (t : List ℕ) → c.definition ≡ Text t → x ≡ substituted t c.name c.done (e.state).quotes
+    → (v : IsExpansion d e.state name)
+    → IfOk r (λ u. (c : Call) (t : List ℕ) → c.definition ≡ Text t → v.0 ≡ substituted t c.name c.done (e.state).quotes
     → (before : Extended)
     → Moves q.may_follow e1 p' u
     (λ z more o l. step (outer_of e.open_calls) (call false c (longer z more q) (here_of o l e (before z more)))))
     → NameMoves q.may_follow e e1 p q p' r name
-expansion_moves e e1 x name p q p' (Ok u) d i v k =
+expansion_moves e e1 f name p q p' (Ok u) d i v k =
     let at : Place = place_at p in
     let c : Call = call_of (Text v.0) name at in
     moves_by q.may_follow e1 p' u _ _ (λ z more t o l. named e (Text v.0) name false (longer z more q) (longer z more p) at o l (sym v.1) (paren_longer (e.state).quotes (e.state).comments q false z more d i t) (λ y. refl) refl) (k c v.0 refl v.2 (λ z more. longer z more p))
-expansion_moves e e1 x name p q p' (Err y) d i v k = tt
+expansion_moves e e1 f name p q p' (Err y) d i v k = tt
 
 -- a builtin that skips the line, called with no list
 pub line_skips : (e e1 : Engine) (name : List ℕ) (p q : Pending) → q.definition ≡ None

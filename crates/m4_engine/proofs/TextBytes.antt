@@ -44,3 +44,10 @@ text_byte q k b lt h sk mk sq mq c g =
       (λ m y. (λ j. scan_kind (kind_by (sk y j) (mk m y j) (t.0 j) (sq y j) (mq m y j)) q k m b y)),
       (λ j. role_by (t.1 j) (t.2 j) ((t.3 j) && (c.parentheses == 0)) (is_space b && not (g j))) ∙ ap (role_by false false false) (no_space (is_space b)),
     )
+
+-- a space is a token, if no delimiter begins with it
+pub lone_space : (q k : Delimiters) (b : ℕ) → b ≡ 32
+    → ((y : List ℕ) → starts_with k (b ∷ y) ≡ false) → ((m : Bool) (y : List ℕ) → may_start k m (b ∷ y) ≡ false)
+    → ((y : List ℕ) → starts_with q (b ∷ y) ≡ false) → ((m : Bool) (y : List ℕ) → may_start q m (b ∷ y) ≡ false)
+    → IsLone q k b
+lone_space q k b h sk mk sq mq = λ m y. (λ j. scan_kind (kind_by (sk y j) (mk m y j) (ap is_letter h j) (sq y j) (mq m y j)) q k m b y)

@@ -19,9 +19,11 @@ use Rattle.m4_engine.specs.Plain.{IsUndecided}
 use Rattle.m4_engine.specs.declared.lookahead.Lookahead.{Lookahead}
 use Rattle.m4_engine.specs.declared.lookahead.Lookahead.TheVariants as aheads
 
--- x is the expansion of a text macro that is called without a list
-abbrev pub IsExpansion : List ℕ → State → List ℕ → Type 0
-IsExpansion x s name = (text : List ℕ) × (top_of s name ≡ Some (Text text)) × (x ≡ subst text name [] s.quotes)
+-- c has the definition of a text macro, whose text is its expansion if it is called without a list
+abbrev pub IsExpansion : Call → State → List ℕ → Type 0
+IsExpansion c s name =
+    (text : List ℕ) × (top_of s name ≡ Some (Text text)) × (text ≡ subst text name [] s.quotes)
+    × (c.definition ≡ Text text)
 
 -- c is the call of a name, with no argument yet, at some place
 abbrev pub IsCalled : Call → State → List ℕ → Type 0
@@ -34,24 +36,24 @@ pub record IsNamed (n : ℕ) (listed : Bool) (s : State) (m : Bool) (x : List �
   pub within : n ≤ length x
   pub list : paren_in s.quotes s.comments m (drop n x) ≡ answer_of listed
 
--- the lookahead is right for the first token of a text; `room` says that the limits allow a call
-abbrev pub IsAhead : Lookahead → State → Bool → Bool → List ℕ → Type 0
-IsAhead aheads.Definition s room m x = ⊥
-IsAhead (aheads.Text begin end n) s room m x =
+-- the lookahead, with the next call c, is right for the first token of a text; `room` says that the limits allow a call
+abbrev pub IsAhead : Lookahead → Call → State → Bool → Bool → List ℕ → Type 0
+IsAhead aheads.Definition c s room m x = ⊥
+IsAhead (aheads.Text begin end n) c s room m x =
     IsText s m n (take (end - begin) (drop begin x)) x × (begin ≤ end) × (end ≤ length x) × (n ≤ length x)
-IsAhead (aheads.Byte b) s room m x = (scan s.quotes s.comments m x ≡ Found (Byte b) 1) × (0 < length x)
-IsAhead (aheads.Expansion n t) s room m x =
-    IsNamed n false s m x × (room ≡ true) × IsExpansion t s (take n x)
-IsAhead (aheads.LineSkip n) s room m x =
+IsAhead (aheads.Byte b) c s room m x = (scan s.quotes s.comments m x ≡ Found (Byte b) 1) × (0 < length x)
+IsAhead (aheads.Expansion n) c s room m x =
+    IsNamed n false s m x × (room ≡ true) × IsExpansion c s (take n x)
+IsAhead (aheads.LineSkip n) c s room m x =
     IsNamed n false s m x × (room ≡ true) × (top_of s (take n x) ≡ Some (Builtin Dnl))
-IsAhead (aheads.Call n c) s room m x = IsNamed n false s m x × IsCalled c s (take n x)
-IsAhead (aheads.List n c) s room m x = IsNamed n true s m x × IsCalled c s (take n x)
-IsAhead aheads.End s room m x = scan s.quotes s.comments m x ≡ Found End 0
-IsAhead (aheads.Unended what) s room m x = scan s.quotes s.comments m x ≡ Broken what
-IsAhead aheads.Undecided s room m x = IsUndecided s m x
-IsAhead aheads.Further s room m x = ⊥
+IsAhead (aheads.Call n) c s room m x = IsNamed n false s m x × IsCalled c s (take n x)
+IsAhead (aheads.List n) c s room m x = IsNamed n true s m x × IsCalled c s (take n x)
+IsAhead aheads.End c s room m x = scan s.quotes s.comments m x ≡ Found End 0
+IsAhead (aheads.Unended what) c s room m x = scan s.quotes s.comments m x ≡ Broken what
+IsAhead aheads.Undecided c s room m x = IsUndecided s m x
+IsAhead aheads.Further c s room m x = ⊥
 
 -- the lookahead is right for the next token
-abbrev pub IsLookaheadOf : Lookahead → State → Bool → Pending → Type 0
-IsLookaheadOf aheads.Definition s room p = p.definition ≢ None
-IsLookaheadOf a s room p = (p.definition ≡ None) × IsAhead a s room p.may_follow (text_of p)
+abbrev pub IsLookaheadOf : Lookahead → Call → State → Bool → Pending → Type 0
+IsLookaheadOf aheads.Definition c s room p = p.definition ≢ None
+IsLookaheadOf a c s room p = (p.definition ≡ None) × IsAhead a c s room p.may_follow (text_of p)

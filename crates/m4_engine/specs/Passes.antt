@@ -59,9 +59,9 @@ ArePasses (s ∷ ss) old new i j = PassesOnce old s.0 i s.1 × ArePasses ss s.0 
 abbrev pub Passes : Engine → Engine → Held → Held → Type 0
 Passes old new i j = (ss : List (Engine × Held)) × ArePasses ss old new i j
 
--- the lookahead is right for the next token
-abbrev pub IsLookahead : Lookahead → Engine → Pending → Type 0
-IsLookahead a e p = IsLookaheadOf a e.state (allows_call e) p
+-- the lookahead, with the next call, is right for the next token
+abbrev pub IsLookahead : Lookahead → Call → Engine → Pending → Type 0
+IsLookahead a c e p = IsLookaheadOf a c e.state (allows_call e) p
 
 -- the first n bytes of a text are such tokens, and were added where they go
 abbrev pub PassesText : Bool → ℕ → List ℕ → Engine → Engine → Type 0
@@ -73,7 +73,7 @@ PassesText m n x old new =
     × (n ≡ k + l) × (old.open_calls ≡ []) × (new ≡ put_in [] t (put_in [] (take k x) old))))
 
 -- a pass over a text, after which more bytes may come, ends at the next token, or something was passed before it
-pub record PassesBy (n : ℕ) (a : Lookahead) (x : List ℕ) (more : Bool) (old new : Engine) : Type 0 where
+pub record PassesBy (n : ℕ) (a : Lookahead) (c : Call) (x : List ℕ) (more : Bool) (old new : Engine) : Type 0 where
   pub passes : PassesText more n x old new
   pub within : n ≤ length x
-  pub end : ((0 < n) × (a ≡ aheads.Further)) ⊎ IsAhead a new.state (allows_call new) more (drop n x)
+  pub end : ((0 < n) × (a ≡ aheads.Further)) ⊎ IsAhead a c new.state (allows_call new) more (drop n x)

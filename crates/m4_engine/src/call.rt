@@ -134,6 +134,16 @@ impl OpenCall {
         Ok(())
     }
 
+    /// Sets the definition.
+    #[inline(always)]
+    pub fn set_definition(&mut self, definition: &Def) -> Result<(), AllocError>
+        requires { IsDefinition definition.now }
+        ensures { OnOk result (self.new ≡ record self.old { definition = definition.now }) }
+    {
+        self.parts.definition = definition.share()?;
+        Ok(())
+    }
+
     /// Sets the place of the call's name.
     pub fn set_place(&mut self, file: Bytes, line: u64)
         ensures { self.new ≡ record self.old { place = record { file = file; line = line } } }

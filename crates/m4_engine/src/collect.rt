@@ -3,8 +3,7 @@
 
 ghost use Rattle.std.proofs.Common.{refl};
 ghost use Rattle.std.specs.Prelude.{◌≡◌, ◌≤◌, true, false, [], length, take};
-ghost use Rattle.m4_state.specs.declared.delimiters.Delimiters.{Delimiters};
-ghost use Rattle.m4_engine.specs.Collected.{HaveRole, IsListRun, IsLone};
+ghost use Rattle.m4_engine.specs.Collected.{HaveRole, IsListRun};
 ghost use Rattle.m4_engine.specs.Expansion.{Call};
 ghost use Rattle.m4_engine.specs.declared.role.Role.TheVariants.{Blank, Other};
 
@@ -25,7 +24,6 @@ impl TokenSink for OpenCall {
         text: &[u8],
         at: usize,
         delims: &Delims<'_>,
-        spaced: bool,
     ) -> Result<Result<usize, Lookahead>, AllocError> {
         let (_, text) = text.split_at(at);
         let byte = match token {
@@ -48,7 +46,7 @@ impl TokenSink for OpenCall {
         if self.has_begun() {
             return Ok(Ok(at + 1));
         }
-        Ok(Ok(at + (1 + spaces_len(rest, spaced))))
+        Ok(Ok(at + (1 + spaces_len(rest, delims))))
     }
 
     ghost none = { λ s m c x. ([], refl, refl) };
@@ -84,15 +82,19 @@ fn text_len(text: &[u8], delims: &Delims<'_>) -> usize
     k
 }
 
-/// Counts the spaces at the start, if each is a token (`spaced`). Before an argument's first token they are dropped.
+/// Counts the spaces at the start, if no delimiter begins with a space. Before an argument's first token they are dropped.
 #[inline(always)]
-fn spaces_len(text: &[u8], spaced: bool) -> usize
-    ensures bytes { (q k : Delimiters) (c : Call) → (spaced ≡ true → IsLone q k 32) → c.begun ≡ false
-        → HaveRole Blank c q k (take result text.now) }
+fn spaces_len(text: &[u8], delims: &Delims<'_>) -> usize
+    ensures bytes { (c : Call) → c.begun ≡ false
+        → HaveRole Blank c delims.now.quotes.now delims.now.comments.now (take result text.now) }
     ensures within { result ≤ length text.now }
 {
     let mut k = 0;
-    while k < text.len() && text[k] == b' ' && spaced {
+    while k < text.len()
+        && text[k] == b' '
+        && !delims.may_comment(b' ')
+        && !delims.may_quote(b' ')
+    {
         k += 1;
     }
     k

@@ -6,19 +6,18 @@ ghost use Rattle.m4_input.specs.Token.{scan};
 ghost use Rattle.m4_engine.specs.Lookahead.{IsAhead};
 
 use crate::call::OpenCall;
-use crate::spare::Spare;
 use m4_builtins::substitute::is_plain;
 use m4_input::delims::Delims;
 use m4_input::front::{Answer, Look, Unended};
 use m4_input::look::list_follows;
 use m4_state::builtin::Builtin;
-use m4_state::bytes::Bytes;
 use m4_state::definition::Def;
 use m4_state::state::State;
 use std::alloc::AllocError;
 
-/// The next token. A turn acts on it.
-#[derive(Drop)]
+/// The next token. A turn acts on it. It has no text and no call, since a pass moves it often: a call is in the memory of
+/// the next one.
+#[derive(Clone, Copy)]
 pub enum Lookahead {
     /// A definition that a call pushed.
     Definition,
@@ -27,15 +26,16 @@ pub enum Lookahead {
     Text(usize, usize, usize),
     /// A byte that belongs to no other token.
     Byte(u8),
-    /// The name of a text macro that is called without a list, and whose text has no dollar: its length, and the text.
-    Expansion(usize, Bytes),
+    /// The name of a text macro that is called without a list, and whose text has no dollar: its length. The next call
+    /// has the text as its definition.
+    Expansion(usize),
     /// The name of the builtin that skips the rest of the line, without a list: its length. No call needs memory for
     /// it.
     LineSkip(usize),
-    /// Any other name with a definition, without a list: its length, and the call.
-    Call(usize, OpenCall),
-    /// A name with a definition, which a list follows: its length, and the call.
-    List(usize, OpenCall),
+    /// Any other name with a definition, without a list: its length. The next call is its call.
+    Call(usize),
+    /// A name with a definition, which a list follows: its length. The next call is its call.
+    List(usize),
     /// The end of the input.
     End,
     /// A string or a comment that the input does not end.
@@ -47,17 +47,17 @@ pub enum Lookahead {
 }
 
 impl Lookahead {
-    /// Returns the lookahead for the token that this look found. `more` is whether bytes may come after the text, and
-    /// `room` whether the limits allow a call. The place of a call is not set yet. Without a list, if the limits allow
-    /// a call, a text without a dollar is its own expansion, and `dnl`, with which many lines end, needs no call in
-    /// memory.
+    /// Returns the lookahead for the token that this look found, and makes the next call that of a name that calls.
+    /// `more` is whether bytes may come after the text, and `room` whether the limits allow a call. The place of a call
+    /// is not set yet. Without a list, if the limits allow a call, a text without a dollar is its own expansion, and
+    /// `dnl`, with which many lines end, needs no call in memory.
     #[inline(always)]
     pub fn of(
         look: Look,
         text: &[u8],
         state: &State,
         delims: &Delims<'_>,
-        spare: &mut Spare,
+        next: &mut OpenCall,
         more: bool,
         room: bool,
     ) -> Result<Lookahead, AllocError>
@@ -65,7 +65,7 @@ impl Lookahead {
         requires comments { delims.now.comments.now ≡ state.now.comments }
         requires value { scan state.now.quotes state.now.comments more text.now ≡ scan_of look text.now }
         requires lies { LookLies text.now look }
-        ensures { IfOk result (λ a. IsAhead a state.now room more text.now) }
+        ensures { IfOk result (λ a. IsAhead a next.new state.now room more text.now) }
     {
         let len = match look {
             Look::Name(len) => len,
@@ -81,15 +81,21 @@ impl Lookahead {
             return Ok(Lookahead::Text(0, len, len));
         };
         match list_follows(after, delims, more) {
-            Answer::Yes => Ok(Lookahead::List(len, spare.call(text, len, definition)?)),
+            Answer::Yes => {
+                next.renew(text, len, definition)?;
+                Ok(Lookahead::List(len))
+            }
             Answer::Unknown => Ok(Lookahead::Undecided),
             Answer::No => match definition {
-                Def::Text(body) if room && is_plain(body.as_slice()) => Ok(Lookahead::Expansion(
-                    len,
-                    body.share()?,
-                )),
+                Def::Text(body) if room && is_plain(body.as_slice()) => {
+                    next.set_definition(definition)?;
+                    Ok(Lookahead::Expansion(len))
+                }
                 Def::Builtin(Builtin::Dnl) if room => Ok(Lookahead::LineSkip(len)),
-                _ => Ok(Lookahead::Call(len, spare.call(text, len, definition)?)),
+                _ => {
+                    next.renew(text, len, definition)?;
+                    Ok(Lookahead::Call(len))
+                }
             },
         }
     }

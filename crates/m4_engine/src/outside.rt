@@ -2,9 +2,8 @@
 //! them as they are, all at once. Manual: "How m4 copies input to output".
 
 ghost use Rattle.std.proofs.Common.{refl};
-ghost use Rattle.std.specs.Prelude.{◌≡◌, ◌≤◌, Bool, true, [], length};
+ghost use Rattle.std.specs.Prelude.{◌≡◌, ◌≤◌, Bool, [], length};
 ghost use Rattle.m4_state.specs.State.{State as Specified};
-ghost use Rattle.m4_engine.specs.Collected.{IsLone};
 ghost use Rattle.m4_engine.specs.Plain.{IsPlainRun};
 
 use crate::lookahead::Lookahead;
@@ -26,12 +25,11 @@ impl TokenSink for Outside {
         token: Lookahead,
         text: &[u8],
         at: usize,
-        _delims: &Delims<'_>,
-        spaced: bool,
+        delims: &Delims<'_>,
     ) -> Result<Result<usize, Lookahead>, AllocError> {
         match token {
             Lookahead::Text(0, end, all) if end == all && at < OUTPUT_BLOCK => {
-                Ok(Ok(with_space(text, at + all, spaced)))
+                Ok(Ok(with_space(text, at + all, delims)))
             }
             Lookahead::Byte(_) if at < OUTPUT_BLOCK => Ok(Ok(at + 1)),
             token => Ok(Err(token)),
@@ -41,18 +39,19 @@ impl TokenSink for Outside {
     ghost none = { λ s m c x. ([], tt, refl) };
 }
 
-/// Returns the length of a run of plain tokens and of the space after it, if there is one and each space is a token
-/// (`spaced`). Most words have a space after them, and to look at it as at any token takes longer.
+/// Returns the length of a run of plain tokens and of the space after it, if there is one and no delimiter begins with a
+/// space. Most words have a space after them, and to look at it as at any token takes longer.
 #[inline(always)]
-fn with_space(text: &[u8], len: usize, spaced: bool) -> usize
+fn with_space(text: &[u8], len: usize, delims: &Delims<'_>) -> usize
     requires { len ≤ length text.now }
     ensures plain { (s : Specified) (m : Bool) → IsPlainRun s m len text.now
-        → (spaced ≡ true → IsLone s.quotes s.comments 32) → IsPlainRun s m result text.now }
+        → delims.now.quotes.now ≡ s.quotes → delims.now.comments.now ≡ s.comments
+        → IsPlainRun s m result text.now }
     ensures more { len ≤ result }
     ensures within { result ≤ length text.now }
 {
     match text.split_at(len).1.first() {
-        Some(b' ') if spaced => len + 1,
+        Some(b' ') if !delims.may_comment(b' ') && !delims.may_quote(b' ') => len + 1,
         _ => len,
     }
 }

@@ -1,11 +1,8 @@
 //! Calls that were made, kept for the memory that later calls need. Manual: "Macro arguments".
 
-ghost use Rattle.std.specs.Prelude.{◌≡◌, ◌≤◌, IfOk, length, take};
-ghost use Rattle.m4_state.specs.Definition.{IsDefinition};
-ghost use Rattle.m4_engine.specs.Expand.{call_of};
+ghost use Rattle.std.specs.Prelude.{◌≡◌};
 
 use crate::call::OpenCall;
-use m4_state::definition::Def;
 use std::alloc::{AllocError, Global};
 use std::marker::Model;
 
@@ -41,25 +38,13 @@ impl Spare {
         }
     }
 
-    /// Returns a call of the name that is the first `len` bytes of a text, with no argument read yet. The caller sets
-    /// its place.
+    /// Returns a call for its memory, whatever it was a call of.
     #[inline(always)]
-    pub fn call(
-        &mut self,
-        text: &[u8],
-        len: usize,
-        definition: &Def,
-    ) -> Result<OpenCall, AllocError>
-        requires valid { IsDefinition definition.now }
-        requires within { len ≤ length text.now }
-        ensures { IfOk result (λ c. c ≡ call_of definition.now (take len text.now) c.place) }
-    {
-        let mut call = match self.calls.pop() {
-            Some(kept) => kept,
-            None => OpenCall::blank(self.alloc)?,
-        };
-        call.renew(text, len, definition)?;
-        Ok(call)
+    pub fn take(&mut self) -> Result<OpenCall, AllocError> {
+        match self.calls.pop() {
+            Some(kept) => Ok(kept),
+            None => OpenCall::blank(self.alloc),
+        }
     }
 
     /// Keeps a call that was made. If there is no memory to keep it in, it is dropped.

@@ -16,7 +16,6 @@ pub mod OpenTokens
 pub mod ByteSearch
 pub mod QuoteSearch
 pub mod Joins
-pub mod ShortQuotes
 pub mod Files
 pub mod Fronts
 pub mod FirstPlace

@@ -24,7 +24,6 @@ use Rattle.m4_input.specs.OpenToken.{StringIsOpen, IsOpenAt, StaysOpen, CommentG
 use Rattle.m4_input.proofs.Scans.{on_mark, level_at, passed_mark, further_further, one_further, before_step}
 use Rattle.m4_input.proofs.Scans.{begins_length, mark_down, mark_up}
 use Rattle.m4_input.proofs.OpenEnd.{mark_stays, front_stays, begins_none, long_not_cut}
-use Rattle.m4_input.proofs.ShortQuotes.{short, same_mark, same_level}
 
 further_none : (k : ℕ) (o : Option ℕ) → o ≡ None → further k o ≡ None
 further_none k o e = ap (further k) e
@@ -173,45 +172,11 @@ passed_both q d x y n m k j s e r =
           ∙ ap (λ (t : List ℕ). further (k + j) (level q p m 0 (t ++ z))) (ap (drop j) e ∙ drop-drop j k x);
     }
 
--- quotes of one byte each: a mark is the same whatever follows
-module _ (b e : ℕ) where
-  any_mark : (a : ℕ) (y : List ℕ) (v : Mark) → ((y : List ℕ) → v ≡ mark_at (short b e) false (a ∷ y)) → Marked (short b e) true a y v
-  any_mark a y v h p z c = same_mark b e p a (y ++ z) ∙ sym (h (y ++ z))
-
-  one_left : (x : List ℕ) (k a : ℕ) → drop k x ≡ a ∷ drop (k + 1) x → 1 ≤ length (drop k x)
-  one_left x k a f = subst (λ (y : List ℕ). 1 ≤ length y) (sym f) (omega arith)
-
-  pub short_past : (n : ℕ) (x : List ℕ) (m k a : ℕ) → HasPassed (short b e) true n x m k → drop k x ≡ a ∷ drop (k + 1) x → ((y : List ℕ) → PlainByte ≡ mark_at (short b e) false (a ∷ y)) → HasPassed (short b e) true n x m (k + 1)
-  short_past n x m k a s f h = passed_past (short b e) true n x m k a s f (any_mark a (drop (k + 1) x) PlainByte h)
-
-  pub short_up : (n : ℕ) (x : List ℕ) (m k a : ℕ) → HasPassed (short b e) true n x m k → drop k x ≡ a ∷ drop (k + 1) x → ((y : List ℕ) → BeginQuote ≡ mark_at (short b e) false (a ∷ y)) → HasPassed (short b e) true n x (m + 1) (k + 1)
-  short_up n x m k a s f h = passed_up (short b e) true n x m k a s f (omega arith) (one_left x k a f) (any_mark a (drop (k + 1) x) BeginQuote h)
-
-  pub short_down : (n : ℕ) (x : List ℕ) (m k a : ℕ) → HasPassed (short b e) true n x m k → drop k x ≡ a ∷ drop (k + 1) x → ((y : List ℕ) → EndQuote ≡ mark_at (short b e) false (a ∷ y)) → (m ≡ 0 → ⊥) → HasPassed (short b e) true n x (m - 1) (k + 1)
-  short_down n x m k a s f h ne = passed_down (short b e) true n x m k a 1 s f (omega arith) refl (one_left x k a f) (any_mark a (drop (k + 1) x) EndQuote h) ne
-
-  pub short_end : (n : ℕ) (x : List ℕ) (k a : ℕ) → HasPassed (short b e) true n x 0 k → drop k x ≡ a ∷ drop (k + 1) x → ((y : List ℕ) → EndQuote ≡ mark_at (short b e) false (a ∷ y)) → level (short b e) false n 0 x ≡ Some k
-  short_end n x k a s f h =
-      let here : level (short b e) false 0 0 (drop k x) ≡ Some 0 = ap (level (short b e) false 0 0) f ∙ level_at (short b e) false 0 a (drop (k + 1) x) EndQuote (sym (h (drop (k + 1) x))) in
-      let there : k + 0 ≡ k = omega arith in
-      passed_level (short b e) false n x 0 k (passed_so (short b e) false n x 0 k s) ∙ ap (further k) here ∙ ap Some there
-
--- the same, if the quotes have a name
--- quotes of one byte each are never cut, so a string was followed to its end or to that of the text
-pub short_reached : (b e : ℕ) (o : Bool) (n : ℕ) (x : List ℕ) (m : ℕ) → HasPassed (short b e) true n x m (length x) → IsStringSoFar (short b e) o n x (string_so_far.Open (length x) m)
-short_reached b e o n x m s = all_reached (short b e) o n x m (length x) (passed_so (short b e) o n x m (length x) s) (omega arith)
-
-pub short_ended : (b e : ℕ) (o : Bool) (n : ℕ) (x : List ℕ) (k : ℕ) → level (short b e) false n 0 x ≡ Some k → k + 1 ≤ length x → IsStringSoFar (short b e) o n x (string_so_far.Ends k)
-short_ended b e o n x k l w = (same_level b e o n 0 x ∙ l, w)
-
--- the same, if the quotes have a name
+-- a string by its quotes of one byte each
 pub short_so_far : (q : Delimiters) (b e : ℕ) (o : Bool) (n : ℕ) (x : List ℕ) (r : StringSoFar) → q.begin ≡ b ∷ [] → q.end ≡ e ∷ [] → IsStringSoFar (record { begin = b ∷ []; end = e ∷ [] }) o n x r → IsStringSoFar q o n x r
 short_so_far q b e o n x r h g s =
     subst (λ (y : List ℕ). IsStringSoFar (record { begin = q.begin; end = y }) o n x r) (sym g)
     (subst (λ (y : List ℕ). IsStringSoFar (record { begin = y; end = e ∷ [] }) o n x r) (sym h) s)
-
-pub all_followed : (q : Delimiters) (n : ℕ) (x : List ℕ) (m k : ℕ) → HasPassed q true n x m k → length x ≤ k → HasPassed q true n x m (length x)
-all_followed q n x m k s h = let w : k ≤ length x = s.within in let e : k ≡ length x = omega arith in subst (HasPassed q true n x m) e s
 
 -- ---- comments
 

@@ -1,19 +1,20 @@
 -- OpenToken: a token that a text begins and does not end, as far as it was looked at.
 -- Not believed: it connects `more_of_token` with `scan`, so that a token over many blocks is looked at once.
--- Words: further, kind_in, MayCome, HasPassed, IsStringSoFar, NameIsOpen, CommentIsOpen, StringIsOpen,
+-- Words: further, kind_in, MayCome, HasPassed, ArePlain, IsStringSoFar, NameIsOpen, CommentIsOpen, StringIsOpen,
 -- IsOpenAt, StaysOpen, CommentGoesOn.
-use Rattle.std.specs.Prelude.{◌≡◌, ◌≤◌, ◌+◌, ℕ, Bool, true, false, List, [], ◌∷◌, ◌++◌, Option, Some, None, length}
+use Rattle.std.specs.Prelude.{◌≡◌, ◌<◌, ◌≤◌, ◌+◌, ℕ, Bool, true, false, List, [], ◌∷◌, ◌++◌, Option, Some, None, length}
 use Rattle.std.specs.Prelude.{drop}
 use Rattle.m4_state.specs.declared.delimiters.Delimiters.{Delimiters}
 use Rattle.m4_input.specs.declared.front.Kind.{Kind}
 use Rattle.m4_input.specs.declared.front.Kind.TheVariants.{CommentHere, NameHere, StringHere, Undecided}
+use Rattle.m4_input.specs.declared.front.Mark.TheVariants.{PlainByte}
 use Rattle.m4_input.specs.declared.front.Scan.TheVariants.{NeedsMore}
 use Rattle.m4_input.specs.declared.strings.StringSoFar.{StringSoFar}
 use Rattle.m4_input.specs.declared.strings.StringSoFar.TheVariants as string_so_far
 use Rattle.m4_input.specs.declared.open_token.OpenToken.{OpenToken}
 use Rattle.m4_input.specs.declared.open_token.OpenToken.TheVariants as opens
 use Rattle.m4_input.specs.Ascii.{is_name_byte}
-use Rattle.m4_input.specs.Token.{run_length, before, level, kind_of, scan}
+use Rattle.m4_input.specs.Token.{run_length, before, mark_at, level, kind_of, scan}
 
 -- so many bytes further
 abbrev pub further : ℕ → Option ℕ → Option ℕ
@@ -37,6 +38,10 @@ pub record HasPassed (q : Delimiters) (may_follow : Bool) (n : ℕ) (x : List �
   pub low : m ≤ n + k
   pub same : (p : Bool) (z : List ℕ) → MayCome may_follow p z
       → level q p n 0 (x ++ z) ≡ further k (level q p m 0 (drop k x ++ z))
+
+-- no quote begins with one of the first n bytes
+abbrev pub ArePlain : Delimiters → Bool → ℕ → List ℕ → Type 0
+ArePlain q may_follow n x = (n ≤ length x) × ((i : ℕ) → i < n → mark_at q may_follow (drop i x) ≡ PlainByte)
 
 -- where a string with n nested strings open is after x, whose end may cut a quote
 abbrev pub IsStringSoFar : Delimiters → Bool → ℕ → List ℕ → StringSoFar → Type 0

@@ -53,8 +53,8 @@ fn name_token(text: &[u8], may_follow: bool) -> Look
     }
 }
 
-/// Returns the first token of a text, if its first byte alone decides that it is a comment or a string: the begin of
-/// the pair has one byte, and nothing else can begin with it.
+/// Returns the first token of a text, if it is a comment whose begin has one byte, or a string, and nothing else can
+/// begin with its first byte.
 #[inline(always)]
 pub fn delimited_token(text: &[u8], delims: &Delims<'_>, may_follow: bool) -> Option<Look>
     ensures value { IfSome result (λ l. scan delims.now.quotes.now delims.now.comments.now
@@ -68,7 +68,11 @@ pub fn delimited_token(text: &[u8], delims: &Delims<'_>, may_follow: bool) -> Op
         }
         return Some(look_at_comment(text, delims.comments, may_follow));
     }
-    if single(delims.quotes.begin.as_slice())? != *first || is_letter_byte(*first) {
+    let begins = match single(delims.quotes.begin.as_slice()) {
+        Some(byte) => byte == *first,
+        None => opens(text, delims.quotes),
+    };
+    if !begins || is_letter_byte(*first) {
         return None;
     }
     Some(look_at_string(text, delims.quotes, may_follow))

@@ -1,8 +1,8 @@
 //! Finds the end of a string in one pass, and counts the strings nested in it.
 //! Manual: "Quoted strings".
 
-ghost use Rattle.std.specs.Prelude.{◌≡◌, ◌+◌, ◌^◌, ◌<◌, ◌≤◌, ◌∷◌, [], Bool, length};
-ghost use Rattle.m4_input.specs.OpenToken.{IsStringSoFar};
+ghost use Rattle.std.specs.Prelude.{◌≡◌, ◌+◌, ◌^◌, ◌<◌, ◌≤◌, ◌∷◌, [], Bool, IfSome, IfNone, length};
+ghost use Rattle.m4_input.specs.OpenToken.{ArePlain, IsStringSoFar};
 ghost use Rattle.m4_input.specs.Token.{mark_at};
 ghost use Rattle.memchr.specs.Find.{IsFirstByte, is_byte2};
 
@@ -11,7 +11,6 @@ use crate::lanes::len_before_either;
 use crate::slice::{cut, single, starts};
 use m4_state::delimiters::Delimiters;
 use m4_state::lanes::LANES;
-use memchr::memchr2;
 
 /// How far a string was followed through a text, whose end may cut a quote.
 #[derive(Clone, Copy)]
@@ -20,64 +19,6 @@ pub enum StringSoFar {
     Ends(usize),
     /// It continues: how many bytes are decided, and how many nested strings are open after them.
     Open(usize, usize),
-}
-
-/// How many bytes are looked at, sixteen at a time, before a search begins. A search takes longer to start.
-const NEAR: usize = 64;
-
-/// Follows a string from quote to quote through a text, before which `depth` nested strings are open.
-#[inline(always)]
-fn follow_quoted(text: &[u8], depth: usize, begin: u8, end: u8) -> StringSoFar
-    requires { depth + length text.now < 2 ^ 64 }
-    ensures { (m : Bool) → IsStringSoFar (record { begin = begin ∷ []; end = end ∷ [] }) m depth text.now result }
-{
-    let mut nested = depth;
-    let mut k = 0usize;
-    'quotes: while let Some(plain) = first_of_two(begin, end, &text[k..]) {
-        k += plain;
-        if text[k] != end {
-            nested += 1;
-        } else if nested == 0 {
-            return StringSoFar::Ends(k);
-        } else {
-            nested -= 1;
-        }
-        k += 1;
-    }
-    StringSoFar::Open(text.len(), nested)
-}
-
-/// Returns the place of the first of these two bytes: a search for it, after a look at the bytes that are near.
-#[inline(always)]
-fn first_of_two(one: u8, other: u8, text: &[u8]) -> Option<usize>
-    ensures { IsFirstByte (is_byte2 one other) text.now result }
-{
-    let near = if text.len() < LANES {
-        0
-    } else {
-        text.len().min(NEAR)
-    };
-    let mut k = 0usize;
-    'lanes: while k < near {
-        // The last sixteen bytes of a text may overlap those before them.
-        let at = k.min(text.len() - LANES);
-        let plain = len_before_either(one, other, text, at);
-        if plain < LANES {
-            return Some(at + plain);
-        }
-        k = at + LANES;
-    }
-    let found = first_far(one, other, &text[k..])?;
-    Some(k + found)
-}
-
-/// Returns the place of the first of these two bytes by a search. Not inlined, so that a short string does not wait for
-/// the search's preparation.
-#[inline(never)]
-fn first_far(one: u8, other: u8, text: &[u8]) -> Option<usize>
-    ensures { IsFirstByte (is_byte2 one other) text.now result }
-{
-    memchr2(one, other, text)
 }
 
 /// Follows a string through a text, before which `depth` nested strings are open.
@@ -102,6 +43,65 @@ pub fn follow_string(
     }
 }
 
+/// Follows a string with quotes of one byte each, from quote to quote.
+#[inline(always)]
+fn follow_quoted(text: &[u8], depth: usize, begin: u8, end: u8) -> StringSoFar
+    requires { depth + length text.now < 2 ^ 64 }
+    ensures { (m : Bool) → IsStringSoFar (record { begin = begin ∷ []; end = end ∷ [] }) m depth text.now result }
+{
+    let mut nested = depth;
+    let mut k = 0usize;
+    'quotes: while let Some(plain) = first_of_two(begin, end, &text[k..]) {
+        k += plain;
+        if text[k] != end {
+            nested += 1;
+        } else if nested == 0 {
+            return StringSoFar::Ends(k);
+        } else {
+            nested -= 1;
+        }
+        k += 1;
+    }
+    StringSoFar::Open(text.len(), nested)
+}
+
+/// Returns the place of the first of these two bytes.
+#[inline(always)]
+fn first_of_two(one: u8, other: u8, text: &[u8]) -> Option<usize>
+    ensures { IsFirstByte (is_byte2 one other) text.now result }
+{
+    if text.len() < LANES {
+        return first_of_few(one, other, text);
+    }
+    let mut k = 0usize;
+    'lanes: while k < text.len() {
+        // The last sixteen bytes of a text may overlap those before them.
+        let at = k.min(text.len() - LANES);
+        let plain = len_before_either(one, other, text, at);
+        if plain < LANES {
+            return Some(at + plain);
+        }
+        k = at + LANES;
+    }
+    None
+}
+
+/// Returns the place of the first of these two bytes, byte by byte. Not inlined, so that the loop over tokens keeps its
+/// registers.
+#[inline(never)]
+fn first_of_few(one: u8, other: u8, text: &[u8]) -> Option<usize>
+    ensures { IsFirstByte (is_byte2 one other) text.now result }
+{
+    let mut k = 0usize;
+    'bytes: while k < text.len() {
+        if text[k] == one || text[k] == other {
+            return Some(k);
+        }
+        k += 1;
+    }
+    None
+}
+
 /// Follows a string with quotes of any length, from mark to mark.
 fn follow_by_marks(text: &[u8], depth: usize, quotes: &Delimiters, may_follow: bool) -> StringSoFar
     requires begin { 0 < length quotes.now.begin }
@@ -110,7 +110,8 @@ fn follow_by_marks(text: &[u8], depth: usize, quotes: &Delimiters, may_follow: b
 {
     let mut open = depth;
     let mut k = 0usize;
-    'places: while k < text.len() {
+    'marks: while let Some(plain) = plain_len(text.split_at(k).1, quotes) {
+        k += plain;
         match mark(text.split_at(k).1, quotes, may_follow) {
             Mark::EndQuote => {
                 if open == 0 {
@@ -128,7 +129,23 @@ fn follow_by_marks(text: &[u8], depth: usize, quotes: &Delimiters, may_follow: b
             Mark::CutQuote => return StringSoFar::Open(k, open),
         }
     }
-    StringSoFar::Open(k, open)
+    StringSoFar::Open(text.len(), open)
+}
+
+/// Counts the bytes before the first one with which a quote may begin; `None` if there is none.
+#[inline(always)]
+fn plain_len(text: &[u8], quotes: &Delimiters) -> Option<usize>
+    ensures some { IfSome result (λ n. (n < length text.now) × ((m : Bool) → ArePlain quotes.now m n text.now)) }
+    ensures none { IfNone result ((m : Bool) → ArePlain quotes.now m (length text.now) text.now) }
+{
+    match (
+        quotes.begin.as_slice().first(),
+        quotes.end.as_slice().first(),
+    ) {
+        (Some(begin), Some(end)) => first_of_two(*begin, *end, text),
+        _ if text.is_empty() => None,
+        _ => Some(0),
+    }
 }
 
 /// Returns the mark with which a text in a string begins.

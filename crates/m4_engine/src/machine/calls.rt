@@ -2,6 +2,7 @@
 //! Manual: "Macro invocation", "Macro arguments".
 
 ghost use Rattle.std.specs.Prelude.{◌≡◌, [], ◌++◌, None, Some, OnOk};
+ghost use Rattle.m4_input.specs.declared.pushed.Pushed.TheVariants as pushes;
 ghost use Rattle.m4_builtins.specs.Act.{IsPushed};
 ghost use Rattle.m4_engine.specs.Engine.{with_made};
 ghost use Rattle.m4_engine.specs.Expand.{with_saved};
@@ -33,6 +34,20 @@ pub(super) fn push(input: &mut Input, value: Pushed) -> Result<(), TurnFault>
         // A turn uses no reader.
         Err(_) => unreachable!(),
     }
+}
+
+/// Pushes a text. A short one is copied to its place.
+#[inline(always)]
+#[tactic(auto, using(crate::proofs::Inputs::pushed))]
+pub(super) fn push_text(input: &mut Input, text: &Bytes) -> Result<(), TurnFault>
+    requires input { IsTaken input.old }
+    ensures pushes { OnOk result (Pushes input.old.pending input.new.pending (Some (pushes.Text text.now))) }
+    ensures stays { OnOk result (Stays input.old input.new) }
+{
+    if input.put_before(text.as_slice()) {
+        return Ok(());
+    }
+    push(input, Pushed::Text(text.share()?))
 }
 
 /// Pushes the value of a call, if it has one. A short text that the call made is copied to its place.

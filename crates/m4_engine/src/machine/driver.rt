@@ -10,6 +10,7 @@ ghost use Rattle.m4_engine.specs.Continued.{HandGives, OrderBy, IsFlushed, cause
 ghost use Rattle.m4_engine.specs.ReadsOn.{ReadsOn};
 ghost use Rattle.m4_engine.specs.Expands.{Expands, ReadsBy, StepBreaksBy, FlushesPrefix, IsInOrder, IsIdle, at_rest};
 
+use crate::call::OpenCall;
 use crate::ending::Cause;
 use crate::machine::Machine;
 use crate::turned::Turned;
@@ -93,12 +94,15 @@ impl Machine {
         {
             return Ok(Wanted::Line);
         }
+        let Ok(mut next) = OpenCall::blank(self.alloc) else {
+            return Err(Cause::OutOfMemory);
+        };
         'turns: loop {
-            let Ok(lookahead) = self.pass_plain(input, copy) else {
+            let Ok(lookahead) = self.pass_plain(input, copy, &mut next) else {
                 return Err(Cause::OutOfMemory);
             };
             let earlier = self.output.len();
-            let Ok(turned) = self.turn(lookahead, input) else {
+            let Ok(turned) = self.turn(lookahead, &mut next, input) else {
                 return Err(Cause::OutOfMemory);
             };
             // If the turn leaves no message and less than a block of output, nothing is flushed.

@@ -9,6 +9,7 @@ ghost use Rattle.m4_engine.specs.Engine.{IsReady, allows_call, put_in};
 ghost use Rattle.m4_engine.specs.Passes.{IsLookahead, PassesBy, Passes};
 
 use super::OUTPUT_BLOCK;
+use crate::call::OpenCall;
 use crate::lookahead::Lookahead;
 use crate::machine::Machine;
 use crate::outside::Outside;
@@ -19,17 +20,18 @@ use m4_state::append::append;
 
 impl Machine {
     /// Consumes leading tokens that need no turn: outside of calls up to a block of plain text, and in a list the
-    /// tokens that only extend the innermost call. The effect is that of as many turns. Returns the next token. `copy`
-    /// is a buffer for a token that spans several texts.
+    /// tokens that only extend the innermost call. The effect is that of as many turns. Returns the next token, and makes
+    /// `next` its call. `copy` is a buffer for a token that spans several texts.
     #[inline(always)]
     pub fn pass_plain(
         &mut self,
         input: &mut Input,
         copy: &mut Vec<u8>,
+        next: &mut OpenCall,
     ) -> Result<Lookahead, TurnFault>
         requires { IsReady input.old }
         ensures passes { OnOk result (Passes self.old self.new input.old input.new) }
-        ensures lookahead { IfOk result (λ a. IsLookahead a self.new input.new.pending) }
+        ensures lookahead { IfOk result (λ a. IsLookahead a next.new self.new input.new.pending) }
     {
         let mut looked = 0;
         'fronts: loop {
@@ -37,12 +39,15 @@ impl Machine {
                 return Ok(Lookahead::Definition);
             };
             let more = others | input.may_follow();
-            let (len, lookahead) = self.pass_text(text, more)?;
+            let (len, lookahead) = self.pass_text(text, more, next)?;
             let left = text.len() - len;
             input.consume(len, false);
             match lookahead {
                 Lookahead::Further => looked = 0,
-                Lookahead::Undecided if others => {
+                Lookahead::Undecided => {
+                    if !others {
+                        return Ok(lookahead);
+                    }
                     // To join few bytes to the next ones takes less time than to copy both.
                     let _joined = left > 0 && input.join();
                     looked = left;
@@ -55,14 +60,19 @@ impl Machine {
     /// Passes the tokens at the start of a text: in a list it collects them into the innermost call. `more` is whether
     /// bytes may come after the text. Returns how many bytes were passed, and the lookahead for the token after them.
     #[inline(always)]
-    fn pass_text(&mut self, text: &[u8], more: bool) -> Result<(usize, Lookahead), TurnFault>
-        ensures { IfOk result (λ r. PassesBy r.0 r.1 text.now more self.old self.new) }
+    fn pass_text(
+        &mut self,
+        text: &[u8],
+        more: bool,
+        next: &mut OpenCall,
+    ) -> Result<(usize, Lookahead), TurnFault>
+        ensures { IfOk result (λ r. PassesBy r.0 r.1 next.new text.now more self.old self.new) }
     {
         let room = self.calls < self.most_calls && !self.is_deep();
         let Some(call) = &mut self.innermost else {
-            return self.pass_outside(text, more, room);
+            return self.pass_outside(text, more, room, next);
         };
-        let passed = pass_tokens(call, text, &self.state, &mut self.spare, more, room)?;
+        let passed = pass_tokens(call, text, &self.state, next, more, room)?;
         Ok(passed)
     }
 
@@ -74,13 +84,13 @@ impl Machine {
         text: &[u8],
         more: bool,
         room: bool,
+        next: &mut OpenCall,
     ) -> Result<(usize, Lookahead), TurnFault>
         requires outside { self.old.open_calls ≡ [] }
         requires room { room ≡ allows_call self.old }
-        ensures { IfOk result (λ r. PassesBy r.0 r.1 text.now more self.old self.new) }
+        ensures { IfOk result (λ r. PassesBy r.0 r.1 next.new text.now more self.old self.new) }
     {
-        let spare = &mut self.spare;
-        let (len, lookahead) = pass_tokens(&mut Outside, text, &self.state, spare, more, room)?;
+        let (len, lookahead) = pass_tokens(&mut Outside, text, &self.state, next, more, room)?;
         let (passed, rest) = text.split_at(len);
         self.put_outside(passed)?;
         match lookahead {

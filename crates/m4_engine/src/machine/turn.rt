@@ -4,6 +4,7 @@
 ghost use Rattle.std.specs.Prelude.{◌≡◌, ◌≢◌, None, take};
 ghost use Rattle.m4_input.specs.Pending.{text_of};
 ghost use Rattle.m4_engine.specs.Engine.{IsReady};
+ghost use Rattle.m4_engine.specs.Expansion.{Call};
 ghost use Rattle.m4_engine.specs.Lookahead.{IsCalled, IsNamed};
 ghost use Rattle.m4_engine.specs.declared.lookahead.Lookahead.TheVariants as aheads;
 ghost use Rattle.m4_engine.specs.Passes.{IsLookahead};
@@ -12,19 +13,24 @@ ghost use Rattle.m4_engine.specs.Turns.{Turns};
 use crate::call::OpenCall;
 use crate::lookahead::Lookahead;
 use crate::machine::Machine;
-use crate::machine::calls::push;
+use crate::machine::calls::push_text;
 use crate::turned::{TurnEnd, TurnFault, Turned};
 use m4_builtins::act::needs_list;
 use m4_input::input::Input;
-use m4_input::pushed::Pushed;
+use m4_state::definition::Def;
 
 impl Machine {
     /// Makes one turn: consumes the first pending token and acts on it. Does nothing if the bytes in hand don't decide
-    /// which token it is.
+    /// which token it is. If it is a call, `next` is that call.
     #[inline(always)]
-    pub fn turn(&mut self, lookahead: Lookahead, input: &mut Input) -> Result<Turned, TurnFault>
+    pub fn turn(
+        &mut self,
+        lookahead: Lookahead,
+        next: &mut OpenCall,
+        input: &mut Input,
+    ) -> Result<Turned, TurnFault>
         requires ready { IsReady input.old }
-        requires lookahead { IsLookahead lookahead self.old input.old.pending }
+        requires lookahead { IsLookahead lookahead next.old self.old input.old.pending }
         ensures { Turns result self.old self.new input.old input.new }
     {
         match lookahead {
@@ -32,10 +38,13 @@ impl Machine {
                 input.consume(1, false);
                 self.take_byte(byte, input)
             }
-            Lookahead::Expansion(len, text) => {
+            Lookahead::Expansion(len) => {
                 input.consume(len, true);
                 self.count();
-                push(input, Pushed::Text(text))?;
+                let Def::Text(text) = next.definition() else {
+                    unreachable!();
+                };
+                push_text(input, text)?;
                 self.begin_argument();
                 Ok(Turned::GoesOn)
             }
@@ -45,8 +54,8 @@ impl Machine {
                 self.begin_argument();
                 Ok(Turned::SkipsLine)
             }
-            Lookahead::Call(len, call) => self.begin_call(len, false, call, input),
-            Lookahead::List(len, call) => self.begin_call(len, true, call, input),
+            Lookahead::Call(len) => self.begin_call(len, false, next, input),
+            Lookahead::List(len) => self.begin_call(len, true, next, input),
             Lookahead::Undecided => Ok(Turned::NeedsMore),
             Lookahead::Text(begin, end, all) => self.take_text(begin, end, all, input),
             Lookahead::Definition => self.take_definition(input),
@@ -68,7 +77,7 @@ impl Machine {
         input: &mut Input,
     ) -> Result<Turned, TurnFault>
         requires ready { IsReady input.old }
-        requires lookahead { IsLookahead (aheads.Text begin end all) self.old input.old.pending }
+        requires lookahead { (next : Call) × IsLookahead (aheads.Text begin end all) next self.old input.old.pending }
         ensures { Turns result self.old self.new input.old input.new }
     {
         let mut copy = Vec::new(self.alloc);
@@ -104,31 +113,31 @@ impl Machine {
         &mut self,
         len: usize,
         listed: bool,
-        call: OpenCall,
+        next: &mut OpenCall,
         input: &mut Input,
     ) -> Result<Turned, TurnFault>
         requires ready { IsReady input.old }
         requires first { input.old.pending.definition ≡ None }
         requires named { IsNamed len listed self.old.state input.old.pending.may_follow (text_of input.old.pending) }
-        requires called { IsCalled call self.old.state (take len (text_of input.old.pending)) }
+        requires called { IsCalled next.old self.old.state (take len (text_of input.old.pending)) }
         ensures { Turns result self.old self.new input.old input.new }
     {
-        let mut call = call;
-        call.set_place(input.share_name()?, input.line());
+        next.set_place(input.share_name()?, input.line());
         input.consume(len, true);
-        if !listed && needs_list(call.definition()) {
-            self.put_text(call.name())?;
+        if !listed && needs_list(next.definition()) {
+            self.put_text(next.name())?;
             return Ok(Turned::GoesOn);
         }
         if self.calls >= self.most_calls {
-            self.report_limit(&call, self.most_calls, b" calls")?;
+            self.report_limit(next, self.most_calls, b" calls")?;
             return Ok(Turned::Ends(TurnEnd::ExpansionLimit));
         }
         self.count();
         if self.is_deep() {
-            self.report_limit(&call, self.most_nested, b" nested calls")?;
+            self.report_limit(next, self.most_nested, b" nested calls")?;
             return Ok(Turned::Ends(TurnEnd::NestingLimit));
         }
+        let call = std::mem::replace(next, self.spare.take()?);
         if !listed {
             return self.call(call, input);
         }

@@ -1,13 +1,12 @@
-use Rattle.std.proofs.Common.{◌≡◌, ◌-◌, ◌≤◌, true, false, length, take}
-use Rattle.m4_state.specs.declared.delimiters.Delimiters.{Delimiters}
-use Rattle.m4_engine.specs.Collected.{HaveRole, IsLone}
+use Rattle.std.proofs.Common.{◌≡◌, ◌-◌, ◌≤◌, false, length, take}
+use Rattle.m4_engine.specs.Collected.{HaveRole}
 use Rattle.m4_engine.specs.Expansion.{Call}
 use Rattle.m4_engine.specs.declared.role.Role.TheVariants.{Blank}
 use Rattle.m4_engine.proofs.collect.spaces_len.Given as goal
 
 -- the bytes so far have the role
 abbrev pub invariant-loop-k : goal.invariant-loop-k
-invariant-loop-k l = record { within : l.k ≤ length l.text; bytes : (q k : Delimiters) (c : Call) → (l.spaced ≡ true → IsLone q k 32) → c.begun ≡ false → HaveRole Blank c q k (take l.k l.text) }
+invariant-loop-k l = record { within : l.k ≤ length l.text; bytes : (c : Call) → c.begun ≡ false → HaveRole Blank c l.delims.quotes.now l.delims.comments.now (take l.k l.text) }
 
 abbrev pub decreases-loop-k : goal.decreases-loop-k
 decreases-loop-k l = length l.text - l.k

@@ -19,12 +19,22 @@ pass_plain-requires g c = c.turns.invariant.runs.ready
 
 pub turn-requires : goal.turn-requires
 turn-requires g c = record {
-  ready = passes_ready c.turns.self c.pass_plain.new.self c.turns.input c.pass_plain.new.input c.turns.invariant.runs.ready c.in-Ok.ensures.passes;
-  lookahead = c.in-Ok.ensures.lookahead;
+  ready = passes_ready c.turns.self c.pass_plain.new.self c.turns.input c.pass_plain.new.input c.turns.invariant.runs.ready c.in-Ok-pass_plain.ensures.passes;
+  lookahead = c.in-Ok-pass_plain.ensures.lookahead;
 }
 
+-- there is no memory for the next call
 pub returns-in_default-clause-gives : goal.returns-in_default-clause-gives
-returns-in_default-clause-gives g c = breaks c.args.wanted c.args.self.now c.turns.self c.args.input.now.pending c.turns.input _ _ _ _ c.turns.invariant.runs
+returns-in_default-clause-gives g c = breaks c.args.wanted c.args.self.now c.args.self.now c.args.input.now.pending c.in_default.input _ _ _ _ (elim c.in_default.branch [
+  | in_default-via-in-Token-1 w ↦ begins_so c.args.self.now c.args.input.now c.in_default.input c.args.wanted _ _ (search rules) (search rules) c.requires.ready c.requires.flushed
+  | in_default-via-in-Line+else-not-skip_in_hand w ↦ begins_past c.args.self.now c.args.input.now w.skip_in_hand.new.self c.in_default.input
+      c.args.wanted _ _ (search rules) (search rules) c.requires.ready c.requires.flushed
+      (line_done_by c.args.input.now w.skip_in_hand.new.self w.skip_in_hand.result true
+      (search rules) w.skip_in_hand.ensures)
+])
+
+pub returns-in_default-pass_plain-clause-gives : goal.returns-in_default-pass_plain-clause-gives
+returns-in_default-pass_plain-clause-gives g c = breaks c.args.wanted c.args.self.now c.turns.self c.args.input.now.pending c.turns.input _ _ _ _ c.turns.invariant.runs
 
 pub returns-in_default-turn-clause-gives : goal.returns-in_default-turn-clause-gives
 returns-in_default-turn-clause-gives g c = breaks c.args.wanted c.args.self.now c.turns.self c.args.input.now.pending c.turns.input _ _ _ _ c.turns.invariant.runs
@@ -53,18 +63,18 @@ turns-init g c = record {
 
 pub returns-in-Err-clause-gives : goal.returns-in-Err-clause-gives
 returns-in-Err-clause-gives g c =
-    let r = passed c.args.wanted c.args.self.now c.turns.self c.pass_plain.new.self c.args.input.now.pending c.turns.input c.pass_plain.new.input _ _ _ _ c.turns.invariant.runs c.in-Ok.ensures.passes in
+    let r = passed c.args.wanted c.args.self.now c.turns.self c.pass_plain.new.self c.args.input.now.pending c.turns.input c.pass_plain.new.input _ _ _ _ c.turns.invariant.runs c.in-Ok-pass_plain.ensures.passes in
     write_breaks c.args.wanted c.args.self.now c.pass_plain.new.self c.turn.new.self c.args.input.now.pending c.pass_plain.new.input c.turn.new.input c.in-Ok-turn.turned _ _ _ _ _ _ r c.in-Ok-turn.ensures.moves c.in-Ok-turn.ensures.made c.in-Err.ensures.begun
 
 pub turns-smaller-in-turns : goal.turns-smaller-in-turns
 turns-smaller-in-turns g c = fell c.turns.self c.pass_plain.new.self c.turn.new.self
     c.turn.new.self c.turns.input c.pass_plain.new.input c.turn.new.input _ _ _ _ c.in-Ok-turn.turned
-    c.in-Ok.ensures.passes c.in-Ok-turn.ensures.moves c.in-Ok-turn.ensures.ready c.in-GoesOn.is
+    c.in-Ok-pass_plain.ensures.passes c.in-Ok-turn.ensures.moves c.in-Ok-turn.ensures.ready c.in-GoesOn.is
     (due_none c.turn.new.self (g.O.ByteSink.contents c.turns.out) (g.M.ByteSink.contents c.turns.messages))
 
 pub turns-preserved-in-turns : goal.turns-preserved-in-turns
 turns-preserved-in-turns g c =
-    let r = passed c.args.wanted c.args.self.now c.turns.self c.pass_plain.new.self c.args.input.now.pending c.turns.input c.pass_plain.new.input _ _ _ _ c.turns.invariant.runs c.in-Ok.ensures.passes in
+    let r = passed c.args.wanted c.args.self.now c.turns.self c.pass_plain.new.self c.args.input.now.pending c.turns.input c.pass_plain.new.input _ _ _ _ c.turns.invariant.runs c.in-Ok-pass_plain.ensures.passes in
     record {
       runs = went_on c.args.wanted c.args.self.now c.pass_plain.new.self c.turn.new.self c.turn.new.self
           c.args.input.now.pending c.pass_plain.new.input c.turn.new.input _ _ _ _ _ _ c.in-Ok-turn.turned r
@@ -79,12 +89,12 @@ turns-preserved-in-turns g c =
 pub turns-smaller-in-GoesOn-turned : goal.turns-smaller-in-GoesOn-turned
 turns-smaller-in-GoesOn-turned g c = fell c.turns.self c.pass_plain.new.self c.turn.new.self
     c.flush.new.self c.turns.input c.pass_plain.new.input c.turn.new.input _ _ _ _ c.in-Ok-turn.turned
-    c.in-Ok.ensures.passes c.in-Ok-turn.ensures.moves c.in-Ok-turn.ensures.ready c.in-GoesOn-turned.is
+    c.in-Ok-pass_plain.ensures.passes c.in-Ok-turn.ensures.moves c.in-Ok-turn.ensures.ready c.in-GoesOn-turned.is
     (due_all c.turn.new.self c.flush.new.self _ _ _ _ c.in_default-flush.ensures.engine c.in_default-flush.ensures.output c.in_default-flush.ensures.messages)
 
 pub turns-preserved-in-GoesOn-turned : goal.turns-preserved-in-GoesOn-turned
 turns-preserved-in-GoesOn-turned g c =
-    let r = passed c.args.wanted c.args.self.now c.turns.self c.pass_plain.new.self c.args.input.now.pending c.turns.input c.pass_plain.new.input _ _ _ _ c.turns.invariant.runs c.in-Ok.ensures.passes in
+    let r = passed c.args.wanted c.args.self.now c.turns.self c.pass_plain.new.self c.args.input.now.pending c.turns.input c.pass_plain.new.input _ _ _ _ c.turns.invariant.runs c.in-Ok-pass_plain.ensures.passes in
     record {
       runs = went_on c.args.wanted c.args.self.now c.pass_plain.new.self c.turn.new.self c.flush.new.self
           c.args.input.now.pending c.pass_plain.new.input c.turn.new.input _ _ _ _ _ _ c.in-Ok-turn.turned r
@@ -104,7 +114,7 @@ flush-requires g c =
 
 pub returns-then-not-skip_in_hand-2-clause-gives : goal.returns-then-not-skip_in_hand-2-clause-gives
 returns-then-not-skip_in_hand-2-clause-gives g c =
-    let r = passed c.args.wanted c.args.self.now c.turns.self c.pass_plain.new.self c.args.input.now.pending c.turns.input c.pass_plain.new.input _ _ _ _ c.turns.invariant.runs c.in-Ok.ensures.passes in
+    let r = passed c.args.wanted c.args.self.now c.turns.self c.pass_plain.new.self c.args.input.now.pending c.turns.input c.pass_plain.new.input _ _ _ _ c.turns.invariant.runs c.in-Ok-pass_plain.ensures.passes in
     needs_line_after c.args.wanted c.args.self.now c.pass_plain.new.self c.turn.new.self c.flush.new.self
     c.args.input.now.pending c.args.input.now c.pass_plain.new.input c.turn.new.input c.skip_in_hand-in-SkipsLine.new.self _ _
     _ _ _ _ c.in-Ok-turn.turned refl r c.in-Ok-turn.ensures.moves c.in-Ok-turn.ensures.ready c.in-SkipsLine.is
@@ -115,7 +125,7 @@ returns-then-not-skip_in_hand-2-clause-gives g c =
 
 pub turns-smaller : goal.turns-smaller
 turns-smaller g c = fell_past_line c.turns.self c.pass_plain.new.self c.turn.new.self c.flush.new.self c.turns.input
-    c.pass_plain.new.input c.turn.new.input c.skip_in_hand-in-SkipsLine.new.self _ _ _ _ c.in-Ok-turn.turned c.in-Ok.ensures.passes
+    c.pass_plain.new.input c.turn.new.input c.skip_in_hand-in-SkipsLine.new.self _ _ _ _ c.in-Ok-turn.turned c.in-Ok-pass_plain.ensures.passes
     c.in-Ok-turn.ensures.moves c.in-Ok-turn.ensures.ready c.in-SkipsLine.is
     (due_all c.turn.new.self c.flush.new.self _ _ _ _ c.in_default-flush.ensures.engine
     c.in_default-flush.ensures.output c.in_default-flush.ensures.messages)
@@ -124,7 +134,7 @@ turns-smaller g c = fell_past_line c.turns.self c.pass_plain.new.self c.turn.new
 
 pub turns-preserved : goal.turns-preserved
 turns-preserved g c =
-    let r = passed c.args.wanted c.args.self.now c.turns.self c.pass_plain.new.self c.args.input.now.pending c.turns.input c.pass_plain.new.input _ _ _ _ c.turns.invariant.runs c.in-Ok.ensures.passes in
+    let r = passed c.args.wanted c.args.self.now c.turns.self c.pass_plain.new.self c.args.input.now.pending c.turns.input c.pass_plain.new.input _ _ _ _ c.turns.invariant.runs c.in-Ok-pass_plain.ensures.passes in
     record {
       runs = went_past_line c.args.wanted c.args.self.now c.pass_plain.new.self c.turn.new.self c.flush.new.self
           c.args.input.now.pending c.pass_plain.new.input c.turn.new.input c.skip_in_hand-in-SkipsLine.new.self _ _ _ _ _ _
@@ -142,7 +152,7 @@ turns-preserved g c =
 
 pub returns-in-NeedsMore-clause-gives : goal.returns-in-NeedsMore-clause-gives
 returns-in-NeedsMore-clause-gives g c =
-    let r = passed c.args.wanted c.args.self.now c.turns.self c.pass_plain.new.self c.args.input.now.pending c.turns.input c.pass_plain.new.input _ _ _ _ c.turns.invariant.runs c.in-Ok.ensures.passes in
+    let r = passed c.args.wanted c.args.self.now c.turns.self c.pass_plain.new.self c.args.input.now.pending c.turns.input c.pass_plain.new.input _ _ _ _ c.turns.invariant.runs c.in-Ok-pass_plain.ensures.passes in
     needed c.args.wanted c.args.self.now c.pass_plain.new.self c.turn.new.self c.flush.new.self
     c.args.input.now.pending c.args.input.now c.pass_plain.new.input c.turn.new.input _ _ _ _ _ _
     c.in-Ok-turn.turned refl r c.in-Ok-turn.ensures.made c.in-NeedsMore.is c.in_default-flush.ensures.engine
@@ -150,7 +160,7 @@ returns-in-NeedsMore-clause-gives g c =
 
 pub returns-in-Ends-clause-gives : goal.returns-in-Ends-clause-gives
 returns-in-Ends-clause-gives g c =
-    let r = passed c.args.wanted c.args.self.now c.turns.self c.pass_plain.new.self c.args.input.now.pending c.turns.input c.pass_plain.new.input _ _ _ _ c.turns.invariant.runs c.in-Ok.ensures.passes in
+    let r = passed c.args.wanted c.args.self.now c.turns.self c.pass_plain.new.self c.args.input.now.pending c.turns.input c.pass_plain.new.input _ _ _ _ c.turns.invariant.runs c.in-Ok-pass_plain.ensures.passes in
     hand_ends c.args.wanted c.args.self.now c.flush.new.self c.args.input.now c.turn.new.input _ c.in-Ends.end _ c.cause.ensures
     (ended c.args.wanted c.args.self.now c.pass_plain.new.self c.turn.new.self c.flush.new.self
     c.args.input.now.pending c.turn.new.input.pending c.pass_plain.new.input _ _ _ _ _ _ c.in-Ok-turn.turned
@@ -159,7 +169,7 @@ returns-in-Ends-clause-gives g c =
 
 pub returns-in-Err-clause-order : goal.returns-in-Err-clause-order
 returns-in-Err-clause-order g c =
-    let r = passed c.args.wanted c.args.self.now c.turns.self c.pass_plain.new.self c.args.input.now.pending c.turns.input c.pass_plain.new.input _ _ _ _ c.turns.invariant.runs c.in-Ok.ensures.passes in
+    let r = passed c.args.wanted c.args.self.now c.turns.self c.pass_plain.new.self c.args.input.now.pending c.turns.input c.pass_plain.new.input _ _ _ _ c.turns.invariant.runs c.in-Ok-pass_plain.ensures.passes in
     write_breaks_in_order c.args.wanted c.args.self.now c.pass_plain.new.self c.turn.new.self c.args.input.now.pending
     c.pass_plain.new.input c.turn.new.input c.in-Ok-turn.turned c.len-earlier.result _ _ _ _ _ _ r
     c.in-Ok-turn.ensures.moves c.in-Ok-turn.ensures.made (search rules) c.in-Err.ensures.order
@@ -170,7 +180,16 @@ returns-in-Ends-clause-order g c = rw c.cause.ensures (in_order_end c.args.wante
 
 -- an allocation failed: nothing was written since the last flush
 pub returns-in_default-clause-order : goal.returns-in_default-clause-order
-returns-in_default-clause-order g c = lack_breaks_in_order c.args.wanted c.args.self.now c.turns.self c.args.input.now.pending c.turns.input _ _ _ _ c.turns.invariant.runs
+returns-in_default-clause-order g c = lack_breaks_in_order c.args.wanted c.args.self.now c.args.self.now c.args.input.now.pending c.in_default.input _ _ _ _ (elim c.in_default.branch [
+  | in_default-via-in-Token-1 w ↦ begins_so c.args.self.now c.args.input.now c.in_default.input c.args.wanted _ _ (search rules) (search rules) c.requires.ready c.requires.flushed
+  | in_default-via-in-Line+else-not-skip_in_hand w ↦ begins_past c.args.self.now c.args.input.now w.skip_in_hand.new.self c.in_default.input
+      c.args.wanted _ _ (search rules) (search rules) c.requires.ready c.requires.flushed
+      (line_done_by c.args.input.now w.skip_in_hand.new.self w.skip_in_hand.result true
+      (search rules) w.skip_in_hand.ensures)
+])
+
+pub returns-in_default-pass_plain-clause-order : goal.returns-in_default-pass_plain-clause-order
+returns-in_default-pass_plain-clause-order g c = lack_breaks_in_order c.args.wanted c.args.self.now c.turns.self c.args.input.now.pending c.turns.input _ _ _ _ c.turns.invariant.runs
 
 pub returns-in_default-turn-clause-order : goal.returns-in_default-turn-clause-order
 returns-in_default-turn-clause-order g c = lack_breaks_in_order c.args.wanted c.args.self.now c.turns.self c.args.input.now.pending c.turns.input _ _ _ _ c.turns.invariant.runs

@@ -1,19 +1,18 @@
-use Rattle.std.proofs.Common.{◌≡◌, ◌∙◌, false, refl, sym, subst, rules, length, ◌-◌}
+use Rattle.std.proofs.Common.{◌≡◌, ◌∙◌, refl, sym, subst, rules, length, ◌-◌}
 use Rattle.m4_input.specs.Input.{Held}
 use Rattle.m4_engine.specs.declared.lookahead.Lookahead.TheVariants as aheads
-use Rattle.m4_engine.proofs.machine.Machine.pass_plain.Goals.{in_default-lookahead-via-in-Undecided+else-others, in_default-lookahead-via-in_default-lookahead}
 use Rattle.m4_engine.proofs.Passing.{IsFurther, passes_front, passed_front, measure_less}
 use Rattle.m4_engine.proofs.machine.Machine.pass_plain.Goals as goal
 
-pub fronts-smaller-in-Further-1 : goal.fronts-smaller-in-Further-1
-fronts-smaller-in-Further-1 c =
-    let f = passes_front c.in_ok-len.lookahead c.fronts.self c.pass_text.new.self c.fronts.input c.consume.new.self c.fronts.looked c.in_ok-len.len c.in-Some.text c.in-Some.others _ _ c.in-Some.is (search rules)
+pub fronts-smaller-in-Further : goal.fronts-smaller-in-Further
+fronts-smaller-in-Further c =
+    let f = passes_front c.in_ok-len.lookahead c.pass_text.new.next c.fronts.self c.pass_text.new.self c.fronts.input c.consume.new.self c.fronts.looked c.in_ok-len.len c.in-Some.text c.in-Some.others _ _ c.in-Some.is (search rules)
     c.in_ok-text.ensures.text c.in_ok-text.ensures.all c.in_ok-text.ensures.longer c.in_ok-text.ensures.first c.in_ok-len.ensures c.consume.ensures in
     measure_less c.fronts.looked 0 (c.fronts.input).pending (c.consume.new.self).pending c.fronts.invariant.looked (f.further c.in-Further.is)
 
-pub fronts-preserved-in-Further-1 : goal.fronts-preserved-in-Further-1
-fronts-preserved-in-Further-1 c =
-    let f = passes_front c.in_ok-len.lookahead c.fronts.self c.pass_text.new.self c.fronts.input c.consume.new.self c.fronts.looked c.in_ok-len.len c.in-Some.text c.in-Some.others _ _ c.in-Some.is (search rules)
+pub fronts-preserved-in-Further : goal.fronts-preserved-in-Further
+fronts-preserved-in-Further c =
+    let f = passes_front c.in_ok-len.lookahead c.pass_text.new.next c.fronts.self c.pass_text.new.self c.fronts.input c.consume.new.self c.fronts.looked c.in_ok-len.len c.in-Some.text c.in-Some.others _ _ c.in-Some.is (search rules)
     c.in_ok-text.ensures.text c.in_ok-text.ensures.all c.in_ok-text.ensures.longer c.in_ok-text.ensures.first c.in_ok-len.ensures c.consume.ensures in
     let h = c.fronts.invariant in
     let r = passed_front c.args.self.now c.fronts.self c.pass_text.new.self c.args.input.now c.fronts.input c.consume.new.self c.consume.new.self h.passes h.ready f.once refl in
@@ -21,56 +20,53 @@ fronts-preserved-in-Further-1 c =
 
 pub fronts-smaller-then-left-gt0 : goal.fronts-smaller-then-left-gt0
 fronts-smaller-then-left-gt0 c =
-    let f = passes_front c.in_ok-len.lookahead c.fronts.self c.pass_text.new.self c.fronts.input c.consume.new.self c.fronts.looked c.in_ok-len.len c.in-Some.text c.in-Some.others _ _ c.in-Some.is (search rules)
+    let f = passes_front c.in_ok-len.lookahead c.pass_text.new.next c.fronts.self c.pass_text.new.self c.fronts.input c.consume.new.self c.fronts.looked c.in_ok-len.len c.in-Some.text c.in-Some.others _ _ c.in-Some.is (search rules)
     c.in_ok-text.ensures.text c.in_ok-text.ensures.all c.in_ok-text.ensures.longer c.in_ok-text.ensures.first c.in_ok-len.ensures c.consume.ensures in
-    measure_less c.fronts.looked _ (c.fronts.input).pending (c.join-joined.new.self).pending c.fronts.invariant.looked (subst (λ (v : Held). IsFurther (length c.in-Some.text.now - c.in_ok-len.len) c.fronts.looked (c.fronts.input).pending v.pending) (sym c.join-joined.ensures) (f.undecided c.if-others.true))
+    measure_less c.fronts.looked _ (c.fronts.input).pending (c.join-joined.new.self).pending c.fronts.invariant.looked (subst (λ (v : Held). IsFurther (length c.in-Some.text.now - c.in_ok-len.len) c.fronts.looked (c.fronts.input).pending v.pending) (sym c.join-joined.ensures) (f.undecided c.if-not-others.false))
 
 pub fronts-preserved-then-left-gt0 : goal.fronts-preserved-then-left-gt0
 fronts-preserved-then-left-gt0 c =
-    let f = passes_front c.in_ok-len.lookahead c.fronts.self c.pass_text.new.self c.fronts.input c.consume.new.self c.fronts.looked c.in_ok-len.len c.in-Some.text c.in-Some.others _ _ c.in-Some.is (search rules)
+    let f = passes_front c.in_ok-len.lookahead c.pass_text.new.next c.fronts.self c.pass_text.new.self c.fronts.input c.consume.new.self c.fronts.looked c.in_ok-len.len c.in-Some.text c.in-Some.others _ _ c.in-Some.is (search rules)
     c.in_ok-text.ensures.text c.in_ok-text.ensures.all c.in_ok-text.ensures.longer c.in_ok-text.ensures.first c.in_ok-len.ensures c.consume.ensures in
     let h = c.fronts.invariant in
     let r = passed_front c.args.self.now c.fronts.self c.pass_text.new.self c.args.input.now c.fronts.input c.consume.new.self c.join-joined.new.self h.passes h.ready f.once c.join-joined.ensures in
-    record { passes = r.0; ready = r.1; looked = (subst (λ (v : Held). IsFurther (length c.in-Some.text.now - c.in_ok-len.len) c.fronts.looked (c.fronts.input).pending v.pending) (sym c.join-joined.ensures) (f.undecided c.if-others.true)).0 }
+    record { passes = r.0; ready = r.1; looked = (subst (λ (v : Held). IsFurther (length c.in-Some.text.now - c.in_ok-len.len) c.fronts.looked (c.fronts.input).pending v.pending) (sym c.join-joined.ensures) (f.undecided c.if-not-others.false)).0 }
 
 pub fronts-smaller : goal.fronts-smaller
 fronts-smaller c =
-    let f = passes_front c.in_ok-len.lookahead c.fronts.self c.pass_text.new.self c.fronts.input c.consume.new.self c.fronts.looked c.in_ok-len.len c.in-Some.text c.in-Some.others _ _ c.in-Some.is (search rules)
+    let f = passes_front c.in_ok-len.lookahead c.pass_text.new.next c.fronts.self c.pass_text.new.self c.fronts.input c.consume.new.self c.fronts.looked c.in_ok-len.len c.in-Some.text c.in-Some.others _ _ c.in-Some.is (search rules)
     c.in_ok-text.ensures.text c.in_ok-text.ensures.all c.in_ok-text.ensures.longer c.in_ok-text.ensures.first c.in_ok-len.ensures c.consume.ensures in
-    measure_less c.fronts.looked _ (c.fronts.input).pending (c.consume.new.self).pending c.fronts.invariant.looked (f.undecided c.if-others.true)
+    measure_less c.fronts.looked _ (c.fronts.input).pending (c.consume.new.self).pending c.fronts.invariant.looked (f.undecided c.if-not-others.false)
 
 pub fronts-preserved : goal.fronts-preserved
 fronts-preserved c =
-    let f = passes_front c.in_ok-len.lookahead c.fronts.self c.pass_text.new.self c.fronts.input c.consume.new.self c.fronts.looked c.in_ok-len.len c.in-Some.text c.in-Some.others _ _ c.in-Some.is (search rules)
+    let f = passes_front c.in_ok-len.lookahead c.pass_text.new.next c.fronts.self c.pass_text.new.self c.fronts.input c.consume.new.self c.fronts.looked c.in_ok-len.len c.in-Some.text c.in-Some.others _ _ c.in-Some.is (search rules)
     c.in_ok-text.ensures.text c.in_ok-text.ensures.all c.in_ok-text.ensures.longer c.in_ok-text.ensures.first c.in_ok-len.ensures c.consume.ensures in
     let h = c.fronts.invariant in
     let r = passed_front c.args.self.now c.fronts.self c.pass_text.new.self c.args.input.now c.fronts.input c.consume.new.self c.consume.new.self h.passes h.ready f.once refl in
-    record { passes = r.0; ready = r.1; looked = (f.undecided c.if-others.true).0 }
+    record { passes = r.0; ready = r.1; looked = (f.undecided c.if-not-others.false).0 }
 
-pub returns-in_default-lookahead : goal.returns-in_default-lookahead
-returns-in_default-lookahead c =
+undecided_no_further : aheads.Undecided ≡ aheads.Further → ⊥
+undecided_no_further e = cc
+
+pub returns-then-not-others : goal.returns-then-not-others
+returns-then-not-others c =
     let a = c.in_ok-len.lookahead in
-    let f = passes_front a c.fronts.self c.pass_text.new.self c.fronts.input c.consume.new.self c.fronts.looked c.in_ok-len.len c.in-Some.text c.in-Some.others _ _ c.in-Some.is (search rules)
+    let f = passes_front a c.pass_text.new.next c.fronts.self c.pass_text.new.self c.fronts.input c.consume.new.self c.fronts.looked c.in_ok-len.len c.in-Some.text c.in-Some.others _ _ c.in-Some.is (search rules)
     c.in_ok-text.ensures.text c.in_ok-text.ensures.all c.in_ok-text.ensures.longer c.in_ok-text.ensures.first c.in_ok-len.ensures c.consume.ensures in
     let h = c.fronts.invariant in
     record {
       passes = (passed_front c.args.self.now c.fronts.self c.pass_text.new.self c.args.input.now c.fronts.input c.consume.new.self c.consume.new.self h.passes h.ready f.once refl).0;
-      lookahead = f.found
-          (λ (u : a ≡ aheads.Undecided).
-          let others : c.in-Some.others ≡ false =
-          elim c.in_default-lookahead.branch [
-            | in_default-lookahead-via-in-Undecided+else-others w ↦ w.if-others.false
-            | in_default-lookahead-via-in_default-lookahead w ↦ absurd (w.in_default-lookahead.not-Undecided u)
-          ] in
-          others)
-          (λ (g : a ≡ aheads.Further).
-          let never : ⊥ =
-          elim c.in_default-lookahead.branch [
-            | in_default-lookahead-via-in-Undecided+else-others w ↦ absurd (undecided_no_further (sym w.in-Undecided.is ∙ g))
-            | in_default-lookahead-via-in_default-lookahead w ↦ w.in_default-lookahead.not-Further g
-          ] in
-          never);
+      lookahead = f.found (λ u. c.if-not-others.true) (λ g. undecided_no_further (sym c.in-Undecided.is ∙ g));
     }
-  where
-    undecided_no_further : aheads.Undecided ≡ aheads.Further → ⊥
-    undecided_no_further e = cc
+
+pub returns-in_default-lookahead : goal.returns-in_default-lookahead
+returns-in_default-lookahead c =
+    let a = c.in_ok-len.lookahead in
+    let f = passes_front a c.pass_text.new.next c.fronts.self c.pass_text.new.self c.fronts.input c.consume.new.self c.fronts.looked c.in_ok-len.len c.in-Some.text c.in-Some.others _ _ c.in-Some.is (search rules)
+    c.in_ok-text.ensures.text c.in_ok-text.ensures.all c.in_ok-text.ensures.longer c.in_ok-text.ensures.first c.in_ok-len.ensures c.consume.ensures in
+    let h = c.fronts.invariant in
+    record {
+      passes = (passed_front c.args.self.now c.fronts.self c.pass_text.new.self c.args.input.now c.fronts.input c.consume.new.self c.consume.new.self h.passes h.ready f.once refl).0;
+      lookahead = f.found (λ u. absurd (c.in_default-lookahead.not-Undecided u)) c.in_default-lookahead.not-Further;
+    }

@@ -16,8 +16,8 @@ returns c =
     let n = c.in_ok-passed.passed.0 in
     let x = c.args.text.now in
     let inside : old.open_calls ≡ c.in-Some.call ∷ cs = ap (λ (o : Option Call). innermost_first o cs) c.in-Some.is in
-    subst (λ (e : Engine). PassesBy n c.in_ok-passed.passed.1 x c.args.more e new) c.self.view_is (record {
+    subst (λ (e : Engine). PassesBy n c.in_ok-passed.passed.1 c.pass_tokens.new.next x c.args.more e new) c.self.view_is (record {
       passes = inr (inl (c.in-Some.call, c.pass_tokens.new.sink, cs, c.in_ok-passed.ensures.takes, inside, refl));
       within = c.in_ok-passed.ensures.within;
-      end = inr (subst (λ (v : Bool). IsAhead c.in_ok-passed.passed.1 old.state v c.args.more (drop n x)) ((search rules) ∙ leaves_same old new refl refl (ap length (sym inside))) c.in_ok-passed.ensures.after);
+      end = inr (subst (λ (v : Bool). IsAhead c.in_ok-passed.passed.1 c.pass_tokens.new.next old.state v c.args.more (drop n x)) ((search rules) ∙ leaves_same old new refl refl (ap length (sym inside))) c.in_ok-passed.ensures.after);
     })

@@ -1,4 +1,7 @@
-use Rattle.std.proofs.Common.{◌≡◌, ◌∙◌, List, [], ℕ, None, false, rules, ap, subst, take}
+use Rattle.std.proofs.Common.{◌≡◌, ◌∙◌, List, [], ℕ, None, Some, false, rules, sym, ap, subst, take}
+use Rattle.m4_state.specs.declared.definition.Def.TheVariants.{Text}
+use Rattle.m4_input.specs.declared.pushed.Pushed.TheVariants as pushes
+use Rattle.m4_engine.specs.Turns.{Pushes}
 use Rattle.m4_input.specs.Pending.{text_of}
 use Rattle.m4_input.specs.Input.{Held, answer_of, longer}
 use Rattle.m4_engine.proofs.Bare.{expanded_goes, text_goes}
@@ -17,41 +20,48 @@ use Rattle.m4_engine.proofs.machine.Machine.turn.Goals as goal
 pub returns-in-Byte : goal.returns-in-Byte
 returns-in-Byte c =
     let e = c.args.self.now in
-    let h = subst (λ (v : Lookahead). IsLookahead v e c.args.input.now.pending) c.in-Byte.is c.requires.lookahead in
+    let d = c.args.next.now in
+    let h = subst (λ (v : Lookahead). IsLookahead v d e c.args.input.now.pending) c.in-Byte.is c.requires.lookahead in
     found_steps_at e c.take_byte.new.self (Byte c.in-Byte.byte) 1 c.args.input.now c.consume.new.self c.take_byte.new.input c.take_byte.result h.0 h.1.0 c.consume.ensures c.take_byte.ensures.moves c.take_byte.ensures
 
-pub returns-in_ok-push-in-Expansion : goal.returns-in_ok-push-in-Expansion
-returns-in_ok-push-in-Expansion c =
+text_same : (x y : List ℕ) → Text x ≡ Text y → x ≡ y
+text_same x y e = cc
+
+pub returns-in_ok-push_text-in-Expansion : goal.returns-in_ok-push_text-in-Expansion
+returns-in_ok-push_text-in-Expansion c =
     let e = c.args.self.now in
+    let d = c.args.next.now in
     let p = c.args.input.now.pending in
     let k = c.consume-in-Expansion.new.self in
     let q = k.pending in
-    let r = c.push.new.input.pending in
+    let r = c.push_text.new.input.pending in
     let n = c.in-Expansion.len in
-    let text = c.in-Expansion.text in
     let name : List ℕ = take n (text_of p) in
     let counted = c.count.new.self in
     let new = c.begin_argument.new.self in
-    let h = subst (λ (v : Lookahead). IsLookahead v e p) c.in-Expansion.is c.requires.lookahead in
+    let h = subst (λ (v : Lookahead). IsLookahead v d e p) c.in-Expansion.is c.requires.lookahead in
+    let text : List ℕ = h.1.2.0 in
+    let same : c.in-Text-definition.text ≡ text = text_same _ _ (sym c.in-Text-definition.is ∙ c.definition.ensures.value ∙ h.1.2.3) in
     let rest : q.definition ≡ None = ap (λ (i : Held). (i.pending).definition) c.consume-in-Expansion.ensures in
     let list : paren_at e.state.quotes e.state.comments q ≡ answer_of false = list_there e.state.quotes e.state.comments p q n (answer_of false) (ap (λ (i : Held). i.pending) c.consume-in-Expansion.ensures) (h.1.0).list in
     let room = room_allows e h.1.1 in
     let made : new ≡ with_made [] [] None counted = c.begin_argument.ensures in
-    found_steps_at e new (Name name) n c.args.input.now k c.push.new.input (Ok turns.GoesOn) h.0 (h.1.0).scanned c.consume-in-Expansion.ensures
-    (expansion_moves e new text name p q r (Ok turns.GoesOn) rest list h.1.2
+    found_steps_at e new (Name name) n c.args.input.now k c.push_text.new.input (Ok turns.GoesOn) h.0 (h.1.0).scanned c.consume-in-Expansion.ensures
+    (expansion_moves e new d name p q r (Ok turns.GoesOn) rest list h.1.2
     (expanded_goes q.may_follow e counted new text (λ z more. longer z more q) r (Ok turns.GoesOn) room.0 room.1 c.count.ensures
-    (λ a x d g. text_goes q.may_follow counted new a x text q r d g made c.in_ok-push-in-Expansion.ensures.pushes)))
-    {to = λ t. Unit {0}} (record { moves = tt; ready = c.in_ok-push-in-Expansion.ensures.stays; limits = search rules; made = tt })
+    (λ a x d g. text_goes q.may_follow counted new a x text q r d g made (subst (λ (x : List ℕ). Pushes q r (Some (pushes.Text x))) same c.in_ok-push_text-in-Expansion.ensures.pushes))))
+    {to = λ t. Unit {0}} (record { moves = tt; ready = c.in_ok-push_text-in-Expansion.ensures.stays; limits = search rules; made = tt })
 
 pub returns-in-LineSkip : goal.returns-in-LineSkip
 returns-in-LineSkip c =
     let e = c.args.self.now in
+    let d = c.args.next.now in
     let p = c.args.input.now.pending in
     let k = c.consume-in-LineSkip.new.self in
     let q = k.pending in
     let n = c.in-LineSkip.len in
     let name : List ℕ = take n (text_of p) in
-    let h = subst (λ (v : Lookahead). IsLookahead v e p) c.in-LineSkip.is c.requires.lookahead in
+    let h = subst (λ (v : Lookahead). IsLookahead v d e p) c.in-LineSkip.is c.requires.lookahead in
     let rest : q.definition ≡ None = ap (λ (i : Held). (i.pending).definition) c.consume-in-LineSkip.ensures in
     let list : paren_at e.state.quotes e.state.comments q ≡ answer_of false = list_there e.state.quotes e.state.comments p q n (answer_of false) (ap (λ (i : Held). i.pending) c.consume-in-LineSkip.ensures) (h.1.0).list in
     let room = room_allows e h.1.1 in
@@ -63,44 +73,52 @@ returns-in-LineSkip c =
 pub consume-requires-in-Expansion-clause-inline : goal.consume-requires-in-Expansion-clause-inline
 consume-requires-in-Expansion-clause-inline c = λ u.
     let e = c.args.self.now in
+    let d = c.args.next.now in
     let p = c.args.input.now.pending in
-    let h = subst (λ (v : Lookahead). IsLookahead v e p) c.in-Expansion.is c.requires.lookahead in
+    let h = subst (λ (v : Lookahead). IsLookahead v d e p) c.in-Expansion.is c.requires.lookahead in
     name_has_none e.state.quotes e.state.comments p.may_follow (text_of p) _ c.in-Expansion.len (h.1.0).scanned
 
 pub consume-requires-in-LineSkip-clause-inline : goal.consume-requires-in-LineSkip-clause-inline
 consume-requires-in-LineSkip-clause-inline c = λ u.
     let e = c.args.self.now in
+    let d = c.args.next.now in
     let p = c.args.input.now.pending in
-    let h = subst (λ (v : Lookahead). IsLookahead v e p) c.in-LineSkip.is c.requires.lookahead in
+    let h = subst (λ (v : Lookahead). IsLookahead v d e p) c.in-LineSkip.is c.requires.lookahead in
     name_has_none e.state.quotes e.state.comments p.may_follow (text_of p) _ c.in-LineSkip.len (h.1.0).scanned
 
 pub begin_call-requires-clause-named : goal.begin_call-requires-clause-named
-begin_call-requires-clause-named c = (subst (λ (v : Lookahead). IsLookahead v c.args.self.now c.args.input.now.pending) c.in-Call.is c.requires.lookahead).1.0
+begin_call-requires-clause-named c = (subst (λ (v : Lookahead). IsLookahead v c.args.next.now c.args.self.now c.args.input.now.pending) c.in-Call.is c.requires.lookahead).1.0
 
 pub begin_call-requires-clause-called : goal.begin_call-requires-clause-called
-begin_call-requires-clause-called c = (subst (λ (v : Lookahead). IsLookahead v c.args.self.now c.args.input.now.pending) c.in-Call.is c.requires.lookahead).1.1
+begin_call-requires-clause-called c = (subst (λ (v : Lookahead). IsLookahead v c.args.next.now c.args.self.now c.args.input.now.pending) c.in-Call.is c.requires.lookahead).1.1
 
 pub begin_call-requires-in-List-clause-named : goal.begin_call-requires-in-List-clause-named
-begin_call-requires-in-List-clause-named c = (subst (λ (v : Lookahead). IsLookahead v c.args.self.now c.args.input.now.pending) c.in-List.is c.requires.lookahead).1.0
+begin_call-requires-in-List-clause-named c = (subst (λ (v : Lookahead). IsLookahead v c.args.next.now c.args.self.now c.args.input.now.pending) c.in-List.is c.requires.lookahead).1.0
 
 pub begin_call-requires-in-List-clause-called : goal.begin_call-requires-in-List-clause-called
-begin_call-requires-in-List-clause-called c = (subst (λ (v : Lookahead). IsLookahead v c.args.self.now c.args.input.now.pending) c.in-List.is c.requires.lookahead).1.1
+begin_call-requires-in-List-clause-called c = (subst (λ (v : Lookahead). IsLookahead v c.args.next.now c.args.self.now c.args.input.now.pending) c.in-List.is c.requires.lookahead).1.1
 
 pub returns-in-Undecided : goal.returns-in-Undecided
 returns-in-Undecided c =
     let e = c.args.self.now in
-    let h = subst (λ (v : Lookahead). IsLookahead v e c.args.input.now.pending) c.in-Undecided.is c.requires.lookahead in
+    let d = c.args.next.now in
+    let h = subst (λ (v : Lookahead). IsLookahead v d e c.args.input.now.pending) c.in-Undecided.is c.requires.lookahead in
     undecided_turn e c.args.input.now c.requires.ready h.0 h.1
 
 pub returns-in-End : goal.returns-in-End
 returns-in-End c =
     let e = c.args.self.now in
-    let h = subst (λ (v : Lookahead). IsLookahead v e c.args.input.now.pending) c.in-End.is c.requires.lookahead in
+    let d = c.args.next.now in
+    let h = subst (λ (v : Lookahead). IsLookahead v d e c.args.input.now.pending) c.in-End.is c.requires.lookahead in
     end_turn e c.take_end.new.self 0 c.args.input.now c.take_end.result c.requires.ready h.0 h.1 c.take_end.ensures
 
 pub returns-in-Unended : goal.returns-in-Unended
 returns-in-Unended c =
     let e = c.args.self.now in
+    let d = c.args.next.now in
     let i = c.args.input.now in
-    let h = subst (λ (v : Lookahead). IsLookahead v e i.pending) c.in-Unended.is c.requires.lookahead in
+    let h = subst (λ (v : Lookahead). IsLookahead v d e i.pending) c.in-Unended.is c.requires.lookahead in
     broken_turn e c.take_unended.new.self c.in-Unended.what c.line.result i c.take_unended.result c.requires.ready h.0 h.1 c.line.ensures c.take_unended.ensures
+
+pub take_text-requires-clause-lookahead : goal.take_text-requires-clause-lookahead
+take_text-requires-clause-lookahead c = (c.args.next.now, search rules)
