@@ -22,7 +22,8 @@ use std::alloc::Global;
 /// A directive is applied as soon as it was read completely, and its bytes are then dropped. Nothing of
 /// a refused file is kept, and reading ends with the block that settles its fault. The time is
 /// proportional to the bytes read. The memory is proportional to the strings kept and the longest
-/// directive, whatever lengths are stated.
+/// directive, whatever lengths are stated: long strings are parts of the blocks that were read, as long as these
+/// have hardly more bytes than they.
 /// Manual: "Frozen file format".
 pub fn read_frozen<R: ByteSource>(alloc: Global, reader: &mut R) -> Result<Loaded, FrozenFault>
     // exact reader: the loaded state is what the bytes denote, and the reader ended after them

@@ -149,6 +149,46 @@ fn a_block_ends_at_each_byte(rt: HostRuntime) {
     }
 }
 
+// The letter of a name, its length, and that of its text: about the lengths from which on a string is kept otherwise.
+static LENGTHS: [(u8, usize, usize); 4] = [
+    (b'a', 30, 31),
+    (b'b', 31, 30),
+    (b'c', 64, 65),
+    (b'd', 65, 1000),
+];
+
+// Returns the directives of these names and texts.
+fn texts_of_each_length(alloc: Global) -> Result<Vec<u8>, AllocError> {
+    let mut report = Report::new(alloc);
+    for &(letter, name, text) in &LENGTHS {
+        report.counted(b"T", name);
+        report.counted(b",", text);
+        report.add(b"\n");
+        report.add(&repeated(alloc, letter, name)?);
+        report.add(&repeated(alloc, b'x', text)?);
+        report.add(b"\n");
+    }
+    report.text()
+}
+
+// Writes these texts again after a comment that ends this many bytes before the first block does.
+fn texts_later(alloc: Global, texts: &[u8], cut: usize) -> Result<Vec<u8>, AllocError> {
+    let file = joined(alloc, &[b"V1\n", texts])?;
+    let file = after_a_comment(alloc, BLOCK.saturating_sub(cut), &file)?;
+    again(alloc, &file, 4096, ROOM)
+}
+
+#[test]
+fn strings_of_each_length_cross_a_block(rt: HostRuntime) -> Result<(), Fail> {
+    let texts = texts_of_each_length(rt.alloc())?;
+    for cut in 0..400 {
+        let want = canonical(rt.alloc(), &texts, b"");
+        let got = texts_later(rt.alloc(), &texts, cut);
+        agrees_cut(&rt, "strings of each length", (4096, cut), want, got);
+    }
+    Ok(())
+}
+
 // A file, and its canonical lines, which are the same.
 const FAILING: &[u8] = b"V1\nQ1,1\n[]\nC0,0\n\nT2,3\na\n# b\nF3,3\ndnldnl\nD2,2\nzz\nD-1,0\n\n";
 
