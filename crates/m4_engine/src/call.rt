@@ -129,9 +129,8 @@ impl OpenCall {
     {
         self.clear();
         let alloc = *self.parts.bytes.allocator();
-        self.parts.name = Bytes::from_front(alloc, text, len)?;
-        self.parts.definition = definition.share()?;
-        Ok(())
+        self.parts.name.set_front(alloc, text, len)?;
+        self.parts.definition.set(definition)
     }
 
     /// Sets the definition.
@@ -140,8 +139,7 @@ impl OpenCall {
         requires { IsDefinition definition.now }
         ensures { OnOk result (self.new ≡ record self.old { definition = definition.now }) }
     {
-        self.parts.definition = definition.share()?;
-        Ok(())
+        self.parts.definition.set(definition)
     }
 
     /// Sets the place of the call's name.

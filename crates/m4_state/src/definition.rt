@@ -1,6 +1,6 @@
 //! Definitions of names.
 
-ghost use Rattle.std.specs.Prelude.{◌≡◌, IfOk};
+ghost use Rattle.std.specs.Prelude.{◌≡◌, IfOk, OnOk, OnErr};
 
 use crate::builtin::Builtin;
 use crate::bytes::Bytes;
@@ -30,6 +30,37 @@ impl Def {
             Def::Builtin(builtin) => Ok(Def::Builtin(*builtin)),
             Def::Placeholder(name) => Ok(Def::Placeholder(name.share()?)),
         }
+    }
+
+    /// Makes this the same definition as another. Mostly both are short texts or both builtins, and nothing is dropped.
+    #[inline(always)]
+    pub fn set(&mut self, other: &Def) -> Result<(), AllocError>
+        ensures ok { OnOk result (self.new ≡ other.now) }
+        ensures err { OnErr result (self.new ≡ self.old) }
+    {
+        if let Def::Text(text) = self
+            && let Def::Text(others) = other
+            && text.set_short(others)
+        {
+            return Ok(());
+        }
+        if let Def::Builtin(builtin) = self
+            && let Def::Builtin(others) = other
+        {
+            *builtin = *others;
+            return Ok(());
+        }
+        self.set_any(other)
+    }
+
+    /// Makes this the same definition as another. Not inlined, so that a call that is renewed is short.
+    #[inline(never)]
+    fn set_any(&mut self, other: &Def) -> Result<(), AllocError>
+        ensures ok { OnOk result (self.new ≡ other.now) }
+        ensures err { OnErr result (self.new ≡ self.old) }
+    {
+        *self = other.share()?;
+        Ok(())
     }
 
     /// Returns the length of the text, or of the builtin's name.
