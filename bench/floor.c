@@ -129,6 +129,7 @@ static unsigned long hash_of(const char *name, size_t len) {
         hash ^= hash >> 29;
     }
     for (; len > 0; name++, len--) hash = (hash ^ (unsigned char)*name) * 0x9e3779b97f4a7c15;
+    hash = (hash ^ hash >> 32) * 0x9e3779b97f4a7c15;
     return hash ^ hash >> 32;
 }
 

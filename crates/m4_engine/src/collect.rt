@@ -82,7 +82,7 @@ fn text_len(text: &[u8], delims: &Delims<'_>) -> usize
     k
 }
 
-/// Counts the spaces at the start, if no delimiter begins with a space. Before an argument's first token they are dropped.
+/// Counts the spaces at the start, if no delimiter begins with one. Before an argument's first token they are dropped.
 #[inline(always)]
 fn spaces_len(text: &[u8], delims: &Delims<'_>) -> usize
     ensures bytes { (c : Call) → c.begun ≡ false

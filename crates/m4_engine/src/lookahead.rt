@@ -15,8 +15,8 @@ use m4_state::definition::Def;
 use m4_state::state::State;
 use std::alloc::AllocError;
 
-/// The next token. A turn acts on it. It has no text and no call, since a pass moves it often: a call is in the memory of
-/// the next one.
+/// The next token. A turn acts on it. It has no text and no call, since a pass moves it often: the call of a name is
+/// made beside it, as the next call.
 #[derive(Clone, Copy)]
 pub enum Lookahead {
     /// A definition that a call pushed.

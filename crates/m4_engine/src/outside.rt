@@ -39,8 +39,8 @@ impl TokenSink for Outside {
     ghost none = { λ s m c x. ([], tt, refl) };
 }
 
-/// Returns the length of a run of plain tokens and of the space after it, if there is one and no delimiter begins with a
-/// space. Most words have a space after them, and to look at it as at any token takes longer.
+/// Returns the length of a run of plain tokens and of the space after it, if there is one and no delimiter begins with
+/// it. Most words have a space after them, and to look at it as at any token takes longer.
 #[inline(always)]
 fn with_space(text: &[u8], len: usize, delims: &Delims<'_>) -> usize
     requires { len ≤ length text.now }

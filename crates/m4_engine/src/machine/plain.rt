@@ -20,8 +20,8 @@ use m4_state::append::append;
 
 impl Machine {
     /// Consumes leading tokens that need no turn: outside of calls up to a block of plain text, and in a list the
-    /// tokens that only extend the innermost call. The effect is that of as many turns. Returns the next token, and makes
-    /// `next` its call. `copy` is a buffer for a token that spans several texts.
+    /// tokens that only extend the innermost call. The effect is that of as many turns. Returns the next token, whose
+    /// call `next` becomes. `copy` is a buffer for a token that spans several texts.
     #[inline(always)]
     pub fn pass_plain(
         &mut self,
