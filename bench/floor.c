@@ -120,17 +120,22 @@ struct entry {
 static struct entry *table;
 static size_t names, places;
 
+static unsigned long with_piece(unsigned long hash, const char *bytes, size_t len) {
+    unsigned long piece = 0;
+    memcpy(&piece, bytes, len);
+    unsigned __int128 product = (unsigned __int128)(hash ^ piece) * 0x9e3779b97f4a7c15;
+    return (unsigned long)product ^ (unsigned long)(product >> 64);
+}
+
+/* By pieces of eight bytes, the last of which overlaps the one before it. */
 static unsigned long hash_of(const char *name, size_t len) {
     unsigned long hash = len;
-    for (; len >= 8; name += 8, len -= 8) {
-        unsigned long piece;
-        memcpy(&piece, name, 8);
-        hash = (hash ^ piece) * 0x9e3779b97f4a7c15;
-        hash ^= hash >> 29;
+    if (len < 8) {
+        for (size_t i = 0; i < len; i++) hash = hash * 31 + (unsigned char)name[i];
+        return with_piece(hash, "", 0);
     }
-    for (; len > 0; name++, len--) hash = (hash ^ (unsigned char)*name) * 0x9e3779b97f4a7c15;
-    hash = (hash ^ hash >> 32) * 0x9e3779b97f4a7c15;
-    return hash ^ hash >> 32;
+    for (size_t at = 0; at + 8 < len; at += 8) hash = with_piece(hash, name + at, 8);
+    return with_piece(hash, name + len - 8, 8);
 }
 
 static struct entry *place_of(const char *name, size_t len, unsigned long hash) {
@@ -146,8 +151,12 @@ static void grow(void) {
     places = places ? places * 2 : 1024;
     table = calloc(places, sizeof *table);
     if (!table) exit(1);
-    for (size_t i = 0; i < count; i++)
-        if (old[i].name) *place_of(old[i].name, old[i].name_len, old[i].hash) = old[i];
+    for (size_t i = 0; i < count; i++) {
+        if (!old[i].name) continue;
+        size_t at = old[i].hash & (places - 1);
+        while (table[at].name) at = (at + 1) & (places - 1);
+        table[at] = old[i];
+    }
     free(old);
 }
 

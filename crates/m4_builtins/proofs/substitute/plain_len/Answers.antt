@@ -1,7 +1,6 @@
-use Rattle.std.proofs.Common.{◌≡◌, ◌≤◌, ◌+◌, ◌∙◌, ℕ, drop, length, not, ap, sym, arith, rules}
+use Rattle.std.proofs.Common.{◌≤◌, ◌+◌, ◌∙◌, ℕ, drop, length, not, ap, sym, arith, rules}
 use Rattle.std.specs.Prelude.{◌==◌}
 use Rattle.m4_input.specs.Ascii.{dollar}
-use Rattle.m4_input.specs.Token.{run_length}
 use Rattle.m4_input.proofs.Prefixes.{run_is_prefix}
 use Rattle.m4_builtins.proofs.RunsOn.{run_from}
 use Rattle.m4_builtins.proofs.substitute.plain_len.Goals as goal
