@@ -7,7 +7,7 @@ use Rattle.m4_engine.specs.declared.stop.Stop.TheVariants as stops
 use Rattle.m4_engine.specs.Order.{InEnd, Breaks, BreaksBy}
 use Rattle.m4_engine.specs.RunSteps.{UsesWriters}
 use Rattle.m4_engine.specs.Session.{SessionState, CloseGives, FinishGives, FreezeGives, FrozenGives}
-use Rattle.m4_engine.specs.Session.{last_state, progress_of}
+use Rattle.m4_engine.specs.Session.{progress_of}
 use Rattle.m4_engine.specs.SessionFailures.{SparesBy, ThreeFail, WriteFails}
 use Rattle.m4_engine.specs.Writers.{Contents, Failures, Three, all_three, both, writers, IsSpared}
 use Rattle.m4_engine.proofs.Starts.{spares_any, spared_answer}

@@ -1,6 +1,6 @@
 -- A made file that begins with the mark.
-use Rattle.std.proofs.Common.{◌≡◌, inl, inr, ℕ, Bool, true, false, List, [], ◌∷◌, Option, Some, None, refl, sym, ap, ◌∙◌, subst}
-use Rattle.std.specs.Prelude.{option_map, unwrap_or, if◌then◌else◌, Result, Ok, Err, OnOk, IfSome, is_err}
+use Rattle.std.proofs.Common.{◌≡◌, inl, inr, ℕ, Bool, true, false, List, [], Option, Some, None, refl, ap, ◌∙◌, subst}
+use Rattle.std.specs.Prelude.{option_map, if◌then◌else◌, Result, Ok, Err, OnOk, IfSome, is_err}
 use Rattle.std.specs.Option.{ForSome}
 use Rattle.std.specs.Str.{bytes_eq}
 use Rattle.std.proofs.Math.Path.{fun_ext}

@@ -1,4 +1,4 @@
-use Rattle.std.proofs.Common.{rules, refl, sym, ◌∙◌, inl, Bool}
+use Rattle.std.proofs.Common.{rules, refl, sym, ◌∙◌, Bool}
 use Rattle.std.specs.Prelude.{Ok}
 use Rattle.m4_engine.specs.File.{after_sources}
 use Rattle.m4_engine.specs.Session.{progress_of}

@@ -1,6 +1,6 @@
-use Rattle.std.proofs.Common.{◌≡◌, rules, refl, inl, Some, None}
+use Rattle.std.proofs.Common.{◌≡◌, rules, refl, Some, None}
 use Rattle.std.specs.Prelude.{Err}
-use Rattle.m4_state.specs.State.{State, IsSized}
+use Rattle.m4_state.specs.State.{IsSized}
 use Rattle.m4_engine.specs.declared.ending.Ending.{Ending}
 use Rattle.m4_engine.specs.WholeRun.{ending_by}
 use Rattle.m4_engine.specs.Start.{start_of}

@@ -1,8 +1,8 @@
 -- The start of the run is that of the line.
-use Rattle.std.proofs.Common.{refl, inr, inl, None, Some, ap, ◌∙◌, sym, List, ℕ}
+use Rattle.std.proofs.Common.{refl, None, Some, ap, ◌∙◌, sym, List, ℕ}
 use Rattle.std.specs.Prelude.{option_map, string_bytes, unwrap_or, []}
 use Rattle.m4_engine.specs.Run.{run}
-use Rattle.m4_tool.specs.Line.{LineResult, result_of_run, unreloaded}
+use Rattle.m4_tool.specs.Line.{result_of_run, unreloaded}
 use Rattle.m4_tool.proofs.OpenedFiles.{fresh_result, thawed_at, reloads_so, missing_so}
 use Rattle.m4_tool.proofs.LineEnds.{ends_as}
 use Rattle.m4_tool.proofs.FollowedCalls.{fresh_start, missing_start, opened_start}

@@ -1,4 +1,4 @@
-use Rattle.std.proofs.Common.{rules, inl, refl, []}
+use Rattle.std.proofs.Common.{rules, []}
 use Rattle.std.specs.Prelude.{Ok}
 use Rattle.m4_engine.specs.Session.{IsOpen}
 use Rattle.m4_engine.proofs.Sessions.{froze, freeze_broke}

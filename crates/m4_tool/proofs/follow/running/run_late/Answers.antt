@@ -2,9 +2,6 @@
 use Rattle.std.proofs.Common.{ap, ◌∙◌, inr}
 use Rattle.m4_engine.specs.Run.{run as defined}
 use Rattle.m4_tool.proofs.ExtendedFiles.{all_extend}
-use Rattle.m4_engine.specs.Carries.{frozen_state}
-use Rattle.m4_engine.specs.Start.{start_of}
-use Rattle.m4_engine.proofs.Reloads.{frozen_in_order}
 use Rattle.m4_tool.proofs.RanFiles.{ran_so}
 use Rattle.m4_tool.proofs.ReadFaults.{run_fails}
 use Rattle.m4_tool.proofs.follow.running.run_late.Goals as goal

@@ -1,5 +1,5 @@
 -- The sources are those of the line, and the late file has the line's name.
-use Rattle.std.proofs.Common.{ap, ◌∙◌, inl}
+use Rattle.std.proofs.Common.{ap, ◌∙◌}
 use Rattle.std.specs.Prelude.{map, option_map, string_bytes, unwrap_or, []}
 use Rattle.m4_tool.specs.Line.{words_of}
 use Rattle.m4_engine.specs.Run.{run as defined}
