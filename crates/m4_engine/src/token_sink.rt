@@ -1,5 +1,6 @@
 //! Where tokens go that call nothing: to an argument, or outside of calls to the output, to a diversion, or nowhere.
-//! One loop takes them, many at once and each looked at once. Manual: "How m4 copies input to output", "Macro arguments".
+//! One loop takes them, many at once and each looked at once. Manual: "How m4 copies input to output", "Macro
+//! arguments".
 
 ghost use Rattle.std.specs.Prelude.{◌≡◌, ◌<◌, ◌≤◌, ℕ, Bool, List, IfOk, IfErr, length, drop};
 ghost use Rattle.m4_state.specs.State.{State as Specified};

@@ -1,4 +1,5 @@
 mod Rows
+mod EqualRows
 pub mod Steps
 pub mod Symbols
 pub mod Literals

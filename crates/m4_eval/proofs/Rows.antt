@@ -145,30 +145,6 @@ pub less_above_equal : evaluated (codes "2<1==0") ≡ Value (pos 1)
 unfolding int_wrap
 less_above_equal = refl
 
-pub less_of_equal : evaluated (codes "1<1") ≡ Value (pos 0)
-unfolding int_wrap
-less_of_equal = refl
-
-pub greater_of_equal : evaluated (codes "2>2") ≡ Value (pos 0)
-unfolding int_wrap
-greater_of_equal = refl
-
-pub at_least_of_less : evaluated (codes "1>=2") ≡ Value (pos 0)
-unfolding int_wrap
-at_least_of_less = refl
-
-pub at_most_of_greater : evaluated (codes "2<=1") ≡ Value (pos 0)
-unfolding int_wrap
-at_most_of_greater = refl
-
-pub at_least_of_equal : evaluated (codes "2>=2") ≡ Value (pos 1)
-unfolding int_wrap
-at_least_of_equal = refl
-
-pub at_most_of_equal : evaluated (codes "2<=2") ≡ Value (pos 1)
-unfolding int_wrap
-at_most_of_equal = refl
-
 pub less_below_shift : evaluated (codes "1<1<<1") ≡ Value (pos 1)
 unfolding int_wrap
 less_below_shift = refl

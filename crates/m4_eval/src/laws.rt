@@ -3,7 +3,8 @@
 //! Each function's contract is a law of `specs/Laws.antt`.
 //! Manual: "Evaluating integer expressions".
 
-ghost use Rattle.m4_eval.specs.Laws.{OneExpression, ReadsExpressions, RefusesOthers, ValuesAreRead, DigitsAreRead, OneValue};
+ghost use Rattle.m4_eval.specs.Laws.{OneExpression, ReadsExpressions, RefusesOthers, ValuesAreRead, DigitsAreRead};
+ghost use Rattle.m4_eval.specs.Laws.{OneValue};
 
 /// A text spells at most one expression.
 pub fn one_expression()

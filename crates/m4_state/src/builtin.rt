@@ -1,8 +1,8 @@
 //! The builtins that this processor has. If a frozen file names another builtin, it is kept as a
 //! placeholder. Manual: "Builtins".
 //!
-//! The table has one row for each builtin, here and in `specs/Builtin.antt`. A look-up by name goes over the names that are
-//! as long.
+//! The table has one row for each builtin, here and in `specs/Builtin.antt`. A look-up by name goes over the names that
+//! are as long.
 
 ghost use Rattle.std.specs.Prelude.{◌≡◌, ◌==◌, length, filter};
 ghost use Rattle.m4_state.specs.Builtin.{called};

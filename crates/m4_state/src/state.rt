@@ -5,8 +5,8 @@
 //! each call defines the complete new record; if an allocation fails, the state is unchanged.
 
 ghost use Rattle.m4_state.specs.Fresh.{fresh_name};
-ghost use Rattle.std.specs.Prelude.{◌≡◌, ◌≢◌, ◌<◌, ◌≤◌, ◌+◌, ◌^◌, ◌∷◌, [], IfOk, IfSome, IfNone, OnOk, OnErr, length, take, drop};
-ghost use Rattle.std.specs.Prelude.{option_copied, option_map, true};
+ghost use Rattle.std.specs.Prelude.{◌≡◌, ◌≢◌, ◌<◌, ◌≤◌, ◌+◌, ◌^◌, ◌∷◌, [], IfOk, IfSome, IfNone, OnOk, OnErr};
+ghost use Rattle.std.specs.Prelude.{length, take, drop, option_copied, option_map, true};
 
 use crate::builtin::Builtin;
 use crate::bytes::Bytes;
@@ -207,8 +207,9 @@ impl State {
         Ok(())
     }
 
-    /// Pushes the `len` bytes after the first `middle` of `strings`, as a text, on the definitions of the name that those
-    /// are. The strings begin at the place `at` of a block. If they are to share its memory, a long one is a part of it.
+    /// Pushes the `len` bytes after the first `middle` of `strings`, as a text, on the definitions of the name that
+    /// those are. The strings begin at the place `at` of a block. If they are to share its memory, a long one is a part
+    /// of it.
     #[doc(hidden)]
     #[inline(always)]
     pub fn push_from_block(

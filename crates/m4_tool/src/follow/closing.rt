@@ -51,8 +51,8 @@ pub fn close<W: World, O: Shows, M: Shows>(
     }
 }
 
-/// Flushes the output, then the messages, and then, if nothing has failed, finishes the file of this name that was made.
-/// Returns whether all that was flushed could be.
+/// Flushes the output, then the messages, and then, if nothing has failed, finishes the file of this name that was
+/// made. Returns whether all that was flushed could be.
 fn flush_all<W: World, O: Shows, M: Shows>(
     cause: Cause,
     name: &[u8],
