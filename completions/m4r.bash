@@ -6,6 +6,13 @@ _m4r_files() {
     mapfile -t COMPREPLY < <(compgen -f -- "$1")
 }
 
+# Offers the frozen files that begin with a word, and folders; if there are none, all files.
+_m4r_frozen_files() {
+    compopt -o filenames 2> /dev/null
+    mapfile -t COMPREPLY < <(compgen -f -X '!*.m4f' -- "$1"; compgen -d -- "$1")
+    [ "${#COMPREPLY[@]}" -gt 0 ] || _m4r_files "$1"
+}
+
 _m4r() {
     local word=${COMP_WORDS[COMP_CWORD]} before=${COMP_WORDS[COMP_CWORD - 1]} i
     # bash makes three words of --canon=FILE: the option, the sign and the file.
@@ -23,6 +30,10 @@ _m4r() {
     done
     case $before in
         -L | --nesting-limit | --expansions) return ;;
+        -R | --reload-state | --canon | --inspect)
+            _m4r_frozen_files "$word"
+            return
+            ;;
     esac
     case $word in
         -*)

@@ -13,6 +13,7 @@ use crate::place::Place;
 use crate::substitute::push_quoted;
 use m4_state::builtin::Builtin;
 use m4_state::state::State;
+use m4_state::words::are_equal;
 use std::alloc::AllocError;
 
 /// Expands to the second argument if the first has a definition, otherwise to the third. Manual:
@@ -61,7 +62,7 @@ fn chosen(list: &[Arg]) -> Option<&Arg>
 {
     let mut rest = list;
     while let [x, y, same, others @ ..] = rest {
-        if text_of(x) == text_of(y) {
+        if are_equal(text_of(x), text_of(y)) {
             return Some(same);
         }
         match others {

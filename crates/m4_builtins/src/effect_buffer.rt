@@ -6,10 +6,10 @@ ghost use Rattle.m4_builtins.specs.QuotesView.{pair_of};
 use crate::args::Arg;
 use crate::effect::Effect;
 use crate::fault::BuiltinFault;
-use crate::substitute::{is_plain, substitute_onto};
+use crate::substitute::{plain_len, substitute_onto};
 use m4_input::pushed::Pushed;
 use m4_state::append::append;
-use m4_state::bytes::Bytes;
+use m4_state::bytes::{Bytes, SHORT};
 use m4_state::definition::Def;
 use std::alloc::{AllocError, Global};
 use std::marker::Model;
@@ -282,13 +282,14 @@ impl EffectBuffer {
             { push = Some (pushes.Text (subst text.now name.now list.now (pair_of quotes.entry))) }) }
     {
         let bytes = text.as_slice();
-        if is_plain(bytes) {
+        let plain = plain_len(bytes);
+        if plain == bytes.len() {
             return Ok(self.give_shared(text)?);
         }
         self.buffer.clear();
         // The result mostly has about as many bytes.
         self.buffer.reserve(bytes.len())?;
-        substitute_onto(&mut self.buffer, bytes, name, list, quotes)?;
+        substitute_onto(&mut self.buffer, bytes, plain, name, list, quotes)?;
         self.is_made = true;
         Ok(())
     }
@@ -342,12 +343,19 @@ impl EffectBuffer {
         self.output = output;
     }
 
-    /// Saves a text until all input is read.
-    pub(crate) fn save(&mut self, text: Bytes)
-        ensures { self.new ≡ record self.old { wrap = Some text } }
+    /// Saves a text until all input is read. Of a short one the memory is kept.
+    pub(crate) fn save(&mut self, text: Vec<u8>) -> Result<(), AllocError>
+        requires { self.old ≡ nothing }
+        ensures { OnOk result (self.new ≡ record self.old { wrap = Some text.items }) }
     {
         self.has_more = true;
-        self.wrap = Some(text);
+        if text.len() > SHORT {
+            self.wrap = Some(Bytes::from(text));
+        } else {
+            self.wrap = Some(Bytes::from_slice(self.alloc(), &text)?);
+            self.buffer = text;
+        }
+        Ok(())
     }
 
     /// Skips the rest of the line.

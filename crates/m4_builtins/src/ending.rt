@@ -12,7 +12,6 @@ use crate::number::{Reading, reading_of};
 use crate::place::Place;
 use crate::substitute::push_joined;
 use m4_state::builtin::Builtin;
-use m4_state::bytes::Bytes;
 use std::alloc::AllocError;
 
 /// Saves the arguments, joined by spaces, until all input is read. Manual: "Saving text until end of
@@ -21,11 +20,9 @@ pub(crate) fn m4wrap(effect: &mut EffectBuffer, list: &[Arg]) -> Result<(), Allo
     requires { effect.old ≡ nothing }
     ensures { OnOk result (effect.new ≡ spec.m4wrap list.now) }
 {
-    let alloc = effect.alloc();
-    let mut text = Vec::new(alloc);
+    let mut text = effect.buffer();
     push_joined(&mut text, list, b' ')?;
-    effect.save(Bytes::from(text));
-    Ok(())
+    effect.save(text)
 }
 
 /// Ends the run with a code: 0 if there is no argument, and 1 with a warning if the argument is no code.

@@ -53,9 +53,14 @@ pub(crate) fn first_number(
     ensures warns { OnOk result (effect.new
         ≡ only_warning (spec.reading_warning place.now builtin (spec.reading_of (text_at list.now 0)))) }
 {
+    let text = text_at(list, 0);
+    // Most arguments are numbers, and then there is no message to make.
+    if let Reading::Number(number) = reading_of(text) {
+        return Ok(Some(number));
+    }
     let alloc = effect.alloc();
     let mut messages = Vec::new(alloc);
-    let number = number_in(alloc, text_at(list, 0), place, builtin, &mut messages)?;
+    let number = number_in(alloc, text, place, builtin, &mut messages)?;
     effect.warn(Bytes::from(messages));
     Ok(number)
 }

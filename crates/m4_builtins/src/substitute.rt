@@ -35,6 +35,7 @@ pub fn substitute(
     substitute_onto(
         &mut out,
         text,
+        plain_len(text),
         args.name.as_slice(),
         args.list.as_slice(),
         quotes,
@@ -51,38 +52,48 @@ pub fn is_plain(text: &[u8]) -> bool
     plain_len(text) == text.len()
 }
 
-/// Appends a text with the name and the arguments of a call substituted, as [`substitute`] does.
+/// Appends a text with the name and the arguments of a call substituted, as [`substitute`] does. The text has so many
+/// bytes before its first dollar.
 pub(crate) fn substitute_onto(
     out: &mut Vec<u8>,
     text: &[u8],
+    plain: usize,
     name: &[u8],
     list: &[Arg],
     quotes: (&[u8], &[u8]),
 ) -> Result<(), BuiltinFault>
+    requires count { plain ≡ run_length (λ b. not (b == dollar)) text.now }
+    requires within { plain ≤ length text.now }
     // exact steps: the text with the arguments substituted
     ensures { OnOk result (out.new.items ≡ out.old.items ++ subst text.now name.now list.now (pair_of quotes.entry)) }
 {
     let mut rest = text;
+    let mut before = plain;
     while !rest.is_empty() {
-        rest = push_front(out, rest, name, list, quotes)?;
+        rest = push_front(out, rest, before, name, list, quotes)?;
+        before = plain_len(rest);
     }
     Ok(())
 }
 
 /// Appends the bytes before the first dollar, and the replacement of that dollar. Returns the rest of
 /// the text.
+#[inline(always)]
 fn push_front<'a>(
     out: &mut Vec<u8>,
     text: &'a [u8],
+    plain: usize,
     name: &[u8],
     list: &[Arg],
     quotes: (&[u8], &[u8]),
 ) -> Result<&'a [u8], AllocError>
+    requires count { plain ≡ run_length (λ b. not (b == dollar)) text.now }
+    requires within { plain ≤ length text.now }
     ensures pushed { IfOk result (λ rest. out.new.items ++ subst rest.now name.now list.now (pair_of quotes.entry)
         ≡ out.old.items ++ subst text.now name.now list.now (pair_of quotes.entry)) }
     ensures shorter { IfOk result (λ rest. 0 < length text.now → length rest.now < length text.now) }
 {
-    let plain = push_plain(out, text)?;
+    append_front(out, text, plain)?;
     let from_dollar = text.split_at(plain).1;
     match from_dollar.split_first() {
         Some((_, after)) => {
@@ -93,22 +104,10 @@ fn push_front<'a>(
     }
 }
 
-/// Appends the bytes before the first dollar, and returns how many there are.
-#[inline(always)]
-fn push_plain(out: &mut Vec<u8>, text: &[u8]) -> Result<usize, AllocError>
-    ensures count { IfOk result (λ n. n ≡ run_length (λ b. not (b == dollar)) text.now) }
-    ensures within { IfOk result (λ n. n ≤ length text.now) }
-    ensures pushed { IfOk result (λ n. out.new.items ≡ out.old.items ++ take n text.now) }
-{
-    let plain = plain_len(text);
-    append_front(out, text, plain)?;
-    Ok(plain)
-}
-
 /// Counts the bytes before the first dollar, sixteen at a time if there are as many. The last sixteen may overlap those
 /// before them.
 #[inline(always)]
-fn plain_len(bytes: &[u8]) -> usize
+pub(crate) fn plain_len(bytes: &[u8]) -> usize
     ensures value { result ≡ run_length (λ b. not (b == dollar)) bytes.now }
     ensures within { result ≤ length bytes.now }
 {

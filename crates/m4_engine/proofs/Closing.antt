@@ -6,11 +6,12 @@ use Rattle.m4_engine.specs.declared.stop.Stop.{Stop}
 use Rattle.m4_engine.specs.declared.stop.Stop.TheVariants as stops
 use Rattle.m4_engine.specs.Order.{InEnd, Breaks, BreaksBy}
 use Rattle.m4_engine.specs.RunSteps.{UsesWriters}
-use Rattle.m4_engine.specs.Session.{SessionState, CloseGives, FinishGives, FreezeGives, FrozenGives}
+use Rattle.m4_engine.specs.Session.{SessionState, CloseGives, FinishGives, FreezeGives, FreezeUses, FrozenGives}
 use Rattle.m4_engine.specs.Session.{progress_of}
 use Rattle.m4_engine.specs.SessionFailures.{SparesBy, ThreeFail, WriteFails}
 use Rattle.m4_engine.specs.Writers.{Contents, Failures, Three, all_three, both, writers, IsSpared}
 use Rattle.m4_engine.proofs.Starts.{spares_any, spared_answer}
+use Rattle.m4_engine.proofs.Wrapping.{uses_none}
 
 -- the frozen text's writer after a run that froze
 freeze_spares : (old : SessionState) (w : Three (Option (List ℕ))) (r : Result Unit Stop) → FrozenGives old w r → SparesBy r w
@@ -57,6 +58,7 @@ module _ {O M Z : Type 0} (co : O → Option (List ℕ)) (cm : M → Option (Lis
     pub order : BreaksBy r (Breaks (InEnd old.limits) (progress_of old) (both co cm o o' m m'))
     pub any_missing : new.any_missing ≡ old.any_missing
     pub writers : UsesWriters freezes z z' (all_three fo fm fz o o' m m' z z') (all_three co cm cz o o' m m' z z') r
+    pub last : FreezeUses old z z' (all_three co cm cz o o' m m' z z') r
 
   pub freeze_closes : (freezes : Bool) (old : SessionState) (o : O) (m : M) (z : Z) (new : SessionState) (o' : O)
       (m' : M) (z' : Z) (r : Result Unit Stop) → freezes ≡ true
@@ -64,12 +66,14 @@ module _ {O M Z : Type 0} (co : O → Option (List ℕ)) (cm : M → Option (Lis
       → BreaksBy r (Breaks (InEnd old.limits) (progress_of old) (both co cm o o' m m'))
       → new.any_missing ≡ old.any_missing
       → ThreeFail r (all_three fo fm fz o o' m m' z z') (all_three co cm cz o o' m m' z z')
+      → FreezeUses old z z' (all_three co cm cz o o' m m' z z') r
       → Closes freezes old o m z new o' m' z' r
-  freeze_closes freezes old o m z new o' m' z' r e h b a f = subst (λ (x : Bool). Closes x old o m z new o' m' z' r) (sym e) (record {
+  freeze_closes freezes old o m z new o' m' z' r e h b a f u = subst (λ (x : Bool). Closes x old o m z new o' m' z' r) (sym e) (record {
     gives = h;
     order = b;
     any_missing = a;
     writers = record { failed = f; spared = λ k. cc; spared_by = freeze_spares old (all_three co cm cz o o' m m' z z') r h.1 };
+    last = u;
   })
 
   pub finish_closes : (freezes : Bool) (old : SessionState) (o : O) (m : M) (z : Z) (new : SessionState) (o' : O)
@@ -86,6 +90,7 @@ module _ {O M Z : Type 0} (co : O → Option (List ℕ)) (cm : M → Option (Lis
       spared = λ k. refl;
       spared_by = finish_spares (all_three co cm cz o o' m m' z z) r refl;
     };
+    last = uses_none old z z (all_three co cm cz o o' m m' z z) r refl;
   })
 
   -- the same where the two ways join

@@ -116,9 +116,9 @@ part_on begin end x z b e =
 same_name : (P : List ℕ → Type 0) (n : ℕ) (x z : List ℕ) → n ≤ length x → P (take n x) → P (take n (x ++ z))
 same_name P n x z k h = subst P (sym (take-append-le n x z k)) h
 
-ahead_on : (s : State) (room more : Bool) (a : Lookahead) (c : Call) (x z : List ℕ) → (a ≡ aheads.Undecided → ⊥) → IsAhead a c s room true x → IsAhead a c s room more (x ++ z)
-ahead_on s room more aheads.Definition c x z u h = absurd h
-ahead_on s room more (aheads.Text begin end n) c x z u h =
+ahead_on : (s : State) (more : Bool) (a : Lookahead) (c : Call) (x z : List ℕ) → (a ≡ aheads.Undecided → ⊥) → IsAhead a c s true x → IsAhead a c s more (x ++ z)
+ahead_on s more aheads.Definition c x z u h = absurd h
+ahead_on s more (aheads.Text begin end n) c x z u h =
     let all : length (x ++ z) ≡ length x + length z = length-append x z in
     let last : end ≤ length x = h.2 in
     let fits : n ≤ length x = h.3 in (
@@ -127,21 +127,21 @@ ahead_on s room more (aheads.Text begin end n) c x z u h =
       omega (arith, all, last),
       omega (arith, all, fits),
     )
-ahead_on s room more (aheads.Byte b) c x z u h =
+ahead_on s more (aheads.Byte b) c x z u h =
     let all : length (x ++ z) ≡ length x + length z = length-append x z in
     (found_on s.quotes s.comments more x z (Byte b) 1 h.0, omega (arith, all, h.1))
-ahead_on s room more (aheads.Expansion n) c x z u h =
-    (named_on s more n false x z h.0, h.1, same_name (IsExpansion c s) n x z (h.0).within h.2)
-ahead_on s room more (aheads.LineSkip n) c x z u h =
-    (named_on s more n false x z h.0, h.1, same_name (λ (y : List ℕ). top_of s y ≡ Some (Builtin Dnl)) n x z (h.0).within h.2)
-ahead_on s room more (aheads.Call n) c x z u h =
+ahead_on s more (aheads.Expansion n) c x z u h =
+    (named_on s more n false x z h.0, same_name (IsExpansion c s) n x z (h.0).within h.1)
+ahead_on s more (aheads.LineSkip n) c x z u h =
+    (named_on s more n false x z h.0, same_name (λ (y : List ℕ). top_of s y ≡ Some (Builtin Dnl)) n x z (h.0).within h.1)
+ahead_on s more (aheads.Call n) c x z u h =
     (named_on s more n false x z h.0, same_name (IsCalled c s) n x z (h.0).within h.1)
-ahead_on s room more (aheads.List n) c x z u h =
+ahead_on s more (aheads.List n) c x z u h =
     (named_on s more n true x z h.0, same_name (IsCalled c s) n x z (h.0).within h.1)
-ahead_on s room more aheads.End c x z u h = found_on s.quotes s.comments more x z End 0 h
-ahead_on s room more (aheads.Unended what) c x z u h = decided_on s.quotes s.comments more x z (Broken what) (λ e. cc) h
-ahead_on s room more aheads.Undecided c x z u h = absurd (u refl)
-ahead_on s room more aheads.Further c x z u h = absurd h
+ahead_on s more aheads.End c x z u h = found_on s.quotes s.comments more x z End 0 h
+ahead_on s more (aheads.Unended what) c x z u h = decided_on s.quotes s.comments more x z (Broken what) (λ e. cc) h
+ahead_on s more aheads.Undecided c x z u h = absurd (u refl)
+ahead_on s more aheads.Further c x z u h = absurd h
 
 -- the bytes after those at the front
 pub record After (p : Pending) (x : List ℕ) (m : Bool) : Type 0 where
@@ -190,18 +190,18 @@ front_fits false n x y a l h = subst (λ (z : List ℕ). n ≤ length z) (sym (a
 front_fits true n x y a l h = let more : n < length x = l refl in omega (arith, more)
 
 -- what was seen after n bytes is seen at the front once these were consumed
-ahead_there : (a : Lookahead) (c : Call) (s : State) (room : Bool) (p : Pending) → p.definition ≡ None → IsAhead a c s room p.may_follow (text_of p) → IsLookaheadOf a c s room p
-ahead_there aheads.Definition c s room p f h = absurd h
-ahead_there (aheads.Text begin end n) c s room p f h = (f, h)
-ahead_there (aheads.Byte b) c s room p f h = (f, h)
-ahead_there (aheads.Expansion n) c s room p f h = (f, h)
-ahead_there (aheads.LineSkip n) c s room p f h = (f, h)
-ahead_there (aheads.Call n) c s room p f h = (f, h)
-ahead_there (aheads.List n) c s room p f h = (f, h)
-ahead_there aheads.End c s room p f h = (f, h)
-ahead_there (aheads.Unended what) c s room p f h = (f, h)
-ahead_there aheads.Undecided c s room p f h = (f, h)
-ahead_there aheads.Further c s room p f h = absurd h
+ahead_there : (a : Lookahead) (c : Call) (s : State) (p : Pending) → p.definition ≡ None → IsAhead a c s p.may_follow (text_of p) → IsLookaheadOf a c s p
+ahead_there aheads.Definition c s p f h = absurd h
+ahead_there (aheads.Text begin end n) c s p f h = (f, h)
+ahead_there (aheads.Byte b) c s p f h = (f, h)
+ahead_there (aheads.Expansion n) c s p f h = (f, h)
+ahead_there (aheads.LineSkip n) c s p f h = (f, h)
+ahead_there (aheads.Call n) c s p f h = (f, h)
+ahead_there (aheads.List n) c s p f h = (f, h)
+ahead_there aheads.End c s p f h = (f, h)
+ahead_there (aheads.Unended what) c s p f h = (f, h)
+ahead_there aheads.Undecided c s p f h = (f, h)
+ahead_there aheads.Further c s p f h = absurd h
 
 -- the bytes that are left of those at the front come first once the others were consumed
 pub front_left : (p : Pending) (m : Bool) (n : ℕ) (x : List ℕ) → IsInFront p x m → n ≤ length x → (rest : List ℕ) × (text_of (consumed n p) ≡ drop n x ++ rest)
@@ -209,36 +209,36 @@ front_left p m n x h k =
     let r = after p x m h in
     (r.rest, sym (drop_parts n p.pushed p.unread) ∙ ap (drop n) r.all ∙ drop-append-le n x r.rest k)
 
-pub ahead_front : (a : Lookahead) (c : Call) (s : State) (room : Bool) (p : Pending) (others : Bool) (n : ℕ) (x : List ℕ)
+pub ahead_front : (a : Lookahead) (c : Call) (s : State) (p : Pending) (others : Bool) (n : ℕ) (x : List ℕ)
     → IsInFront p x (others || p.may_follow) → (others ≡ false → x ≡ text_of p) → n ≤ length x
     → (a ≡ aheads.Undecided → others ≡ false)
-    → IsAhead a c s room (others || p.may_follow) (drop n x)
-    → IsLookaheadOf a c s room (consumed n p)
-ahead_front a c s room p false n x h all k u g =
-    ahead_there a c s room (consumed n p) refl
-    (subst (λ (y : List ℕ). IsAhead a c s room p.may_follow y) (ap (drop n) (all refl) ∙ drop_parts n p.pushed p.unread) g)
-ahead_front a c s room p true n x h all k u g =
+    → IsAhead a c s (others || p.may_follow) (drop n x)
+    → IsLookaheadOf a c s (consumed n p)
+ahead_front a c s p false n x h all k u g =
+    ahead_there a c s (consumed n p) refl
+    (subst (λ (y : List ℕ). IsAhead a c s p.may_follow y) (ap (drop n) (all refl) ∙ drop_parts n p.pushed p.unread) g)
+ahead_front a c s p true n x h all k u g =
     let l = front_left p true n x h k in
-    ahead_there a c s room (consumed n p) refl
-    (subst (λ (y : List ℕ). IsAhead a c s room p.may_follow y) (sym l.1)
-    (ahead_on s room p.may_follow a c (drop n x) l.0 (λ e. absurd (no (u e))) g))
+    ahead_there a c s (consumed n p) refl
+    (subst (λ (y : List ℕ). IsAhead a c s p.may_follow y) (sym l.1)
+    (ahead_on s p.may_follow a c (drop n x) l.0 (λ e. absurd (no (u e))) g))
   where
     no : true ≡ false → ⊥
     no e = cc
 
 -- text that is put changes no name and no delimiter
-pub ahead_kept : (a : Lookahead) (c : Call) (s : State) (t : List ℕ) (room m : Bool) (x : List ℕ) → IsAhead a c s room m x → IsAhead a c (appended s t) room m x
-ahead_kept aheads.Definition c s t room m x h = h
-ahead_kept (aheads.Text begin end n) c s t room m x h = h
-ahead_kept (aheads.Byte b) c s t room m x h = h
-ahead_kept (aheads.Expansion n) c s t room m x h = (record { scanned = (h.0).scanned; within = (h.0).within; list = (h.0).list }, h.1, h.2)
-ahead_kept (aheads.LineSkip n) c s t room m x h = (record { scanned = (h.0).scanned; within = (h.0).within; list = (h.0).list }, h.1, h.2)
-ahead_kept (aheads.Call n) c s t room m x h = (record { scanned = (h.0).scanned; within = (h.0).within; list = (h.0).list }, h.1)
-ahead_kept (aheads.List n) c s t room m x h = (record { scanned = (h.0).scanned; within = (h.0).within; list = (h.0).list }, h.1)
-ahead_kept aheads.End c s t room m x h = h
-ahead_kept (aheads.Unended what) c s t room m x h = h
-ahead_kept aheads.Undecided c s t room m x h = h
-ahead_kept aheads.Further c s t room m x h = h
+pub ahead_kept : (a : Lookahead) (c : Call) (s : State) (t : List ℕ) (m : Bool) (x : List ℕ) → IsAhead a c s m x → IsAhead a c (appended s t) m x
+ahead_kept aheads.Definition c s t m x h = h
+ahead_kept (aheads.Text begin end n) c s t m x h = h
+ahead_kept (aheads.Byte b) c s t m x h = h
+ahead_kept (aheads.Expansion n) c s t m x h = (record { scanned = (h.0).scanned; within = (h.0).within; list = (h.0).list }, h.1)
+ahead_kept (aheads.LineSkip n) c s t m x h = (record { scanned = (h.0).scanned; within = (h.0).within; list = (h.0).list }, h.1)
+ahead_kept (aheads.Call n) c s t m x h = (record { scanned = (h.0).scanned; within = (h.0).within; list = (h.0).list }, h.1)
+ahead_kept (aheads.List n) c s t m x h = (record { scanned = (h.0).scanned; within = (h.0).within; list = (h.0).list }, h.1)
+ahead_kept aheads.End c s t m x h = h
+ahead_kept (aheads.Unended what) c s t m x h = h
+ahead_kept aheads.Undecided c s t m x h = h
+ahead_kept aheads.Further c s t m x h = h
 
 -- what is left is less, if some bytes were passed
 pub front_less : (p : Pending) (m : Bool) (n : ℕ) (x : List ℕ) → IsInFront p x m → 0 < n → n ≤ length x → length (text_of (consumed n p)) < length (text_of p)

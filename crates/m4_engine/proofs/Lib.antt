@@ -7,6 +7,7 @@ pub mod TurnsCounted
 pub mod CallsFall
 pub mod ByRules
 pub mod Growth
+pub mod Fronts
 pub mod OnlyGrows
 pub mod Continues
 pub mod OnePass

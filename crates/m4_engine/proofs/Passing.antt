@@ -23,7 +23,7 @@ use Rattle.m4_engine.specs.Nesting.{GoOn}
 use Rattle.m4_engine.specs.OpenCalls.{take_turn, Goes}
 use Rattle.m4_engine.specs.Expansion.{Call, Expansion, Kept, Ended, reading, put_text, issued}
 use Rattle.m4_engine.specs.Expand.{turn, join, take_front, take_name}
-use Rattle.m4_engine.specs.Engine.{Engine, put_in, here_of, outer_of, configuration, IsReady, allows_call}
+use Rattle.m4_engine.specs.Engine.{Engine, put_in, here_of, outer_of, configuration, IsReady}
 use Rattle.m4_engine.specs.Moments.{Moment, Next, moved, Comes}
 use Rattle.m4_engine.specs.Turns.{MayFollow, Moves}
 use Rattle.m4_engine.specs.Passes.{PassesPlain, PassesInner, PassesToken, PassesOnce, ArePasses, Passes, PassesText}
@@ -426,10 +426,10 @@ module _ (a : Lookahead) (c : Call) (old new : Engine) (i j : Held) (looked n : 
     (longer : others ≡ true → looked < length x) (d : (i.pending).definition ≡ None)
     (r : PassesBy n a c x more old new) (g : j ≡ record i { pending = consumed n i.pending }) where
   abbrev ends : Type 0
-  ends = ((0 < n) × (a ≡ aheads.Further)) ⊎ IsAhead a c new.state (allows_call new) (others || (i.pending).may_follow) (drop n x)
+  ends = ((0 < n) × (a ≡ aheads.Further)) ⊎ IsAhead a c new.state (others || (i.pending).may_follow) (drop n x)
 
   ends_so : ends
-  ends_so = subst (λ (v : Bool). ((0 < n) × (a ≡ aheads.Further)) ⊎ IsAhead a c new.state (allows_call new) v (drop n x)) m r.end
+  ends_so = subst (λ (v : Bool). ((0 < n) × (a ≡ aheads.Further)) ⊎ IsAhead a c new.state v (drop n x)) m r.end
 
   front_once : PassesOnce old new i j
   front_once = passes_text old new i j (others || (i.pending).may_follow) n x h d r.within (subst (λ (v : Bool). PassesText v n x old new) m r.passes) g
@@ -457,7 +457,7 @@ module _ (a : Lookahead) (c : Call) (old new : Engine) (i j : Held) (looked n : 
       by : ends → (length (text_of (consumed n i.pending)) < length (text_of i.pending))
           ⊎ ((length (text_of (consumed n i.pending)) ≡ length (text_of i.pending)) × (looked < 0))
       by (inl e) = inl (front_less i.pending (others || (i.pending).may_follow) n x h e.0 r.within)
-      by (inr e) = absurd (subst (λ (v : Lookahead). IsAhead v c new.state (allows_call new) (others || (i.pending).may_follow) (drop n x)) f e)
+      by (inr e) = absurd (subst (λ (v : Lookahead). IsAhead v c new.state (others || (i.pending).may_follow) (drop n x)) f e)
 
   -- a token was found
   front_found : (others ≡ false → x ≡ text_of i.pending) → (a ≡ aheads.Undecided → others ≡ false) → (a ≡ aheads.Further → ⊥) → IsLookahead a c new j.pending
@@ -465,7 +465,7 @@ module _ (a : Lookahead) (c : Call) (old new : Engine) (i j : Held) (looked n : 
     where
       by : ends → IsLookahead a c new (consumed n i.pending)
       by (inl e) = absurd (f e.1)
-      by (inr e) = ahead_front a c new.state (allows_call new) i.pending others n x h all r.within u e
+      by (inr e) = ahead_front a c new.state i.pending others n x h all r.within u e
 
 -- what a pass over the front of an input did: `others` come after the bytes that it looked at, of which `left` are left
 pub record PassesFront (a : Lookahead) (c : Call) (looked left : ℕ) (others : Bool) (old new : Engine) (i j : Held) : Type 0 where

@@ -4,12 +4,13 @@ use Rattle.std.proofs.Common.{sym, ap, ◌∙◌, subst, append-nil, append_asso
 use Rattle.std.specs.Prelude.{Err}
 use Rattle.std.proofs.lemmas.List.{take_at}
 use Rattle.m4_state.proofs.CallerLaws.{with_bytes-append, with_bytes-nil}
-use Rattle.m4_state.specs.Device.{with_bytes}
+use Rattle.m4_state.specs.Device.{with_bytes, HasBegun, one_more}
 use Rattle.m4_input.specs.Pending.{Pending, text_of, line_length}
 use Rattle.m4_input.specs.Input.{Held, longer, all_read, after_line}
 use Rattle.m4_input.specs.Blocks.{LineGives}
 use Rattle.m4_input.proofs.Decided.{line_open}
 use Rattle.m4_engine.specs.declared.ending.Cause.{Cause}
+use Rattle.m4_engine.specs.declared.ending.Cause.TheVariants as causes
 use Rattle.m4_engine.specs.declared.machine.driver.Wanted.{Wanted}
 use Rattle.m4_engine.specs.declared.machine.driver.Wanted.TheVariants as wanted
 use Rattle.m4_engine.specs.declared.turned.Turned.{Turned}
@@ -22,12 +23,15 @@ use Rattle.m4_engine.specs.Moments.{moved}
 use Rattle.m4_engine.specs.Expansion.{RunSoFar, Expansion, Kept, Ended, Ends, NeedsInput}
 use Rattle.m4_engine.specs.Expand.{turn, join, expand, skip_line, skip_all, out_of_bound_at, size_of, calls_left}
 use Rattle.m4_engine.specs.Engine.{Engine, so_far_of, outer_of, here_of, configuration, after_flush, IsReady}
+use Rattle.m4_engine.specs.Engine.{HasFront, KeepsOutput}
 use Rattle.m4_engine.specs.Turns.{MayFollow, Moving, Moves, Needs, IsTurned, StaysBy, cause_of_end}
 use Rattle.m4_engine.specs.Passes.{Passes}
 use Rattle.m4_engine.specs.Expands.{IsInOrder, FlushesPrefix, FlushesDue}
 use Rattle.m4_engine.specs.Continued.{BreaksInOrder, OrderBy, skipped_first, comes_to, Leads, Marked, IsMarked}
 use Rattle.m4_engine.specs.Continued.{IsFlushed, HandNeeds, HandEnds, HandBreaks, HandGives, HasMade, so_far_in}
-use Rattle.m4_engine.specs.Writers.{Contents, writers, HasWritten, HasTaken}
+use Rattle.m4_engine.specs.Continued.{GivesOut}
+use Rattle.m4_engine.specs.Writers.{Contents, writers, HasWritten, HasTaken, ByCause, FailsBy}
+use Rattle.m4_engine.proofs.Begins.{all_begun}
 use Rattle.m4_engine.proofs.CallsFall.{falls}
 use Rattle.m4_engine.proofs.Growth.{Extends}
 use Rattle.m4_engine.proofs.Inputs.{none_is_front}
@@ -342,16 +346,18 @@ has_made a b o m x y e r x' y' f g k = record {
         ∙ append_assoc ((a ++ o) ++ x) y more
         ∙ ap (λ n. n ++ (y ++ more)) (append_assoc a o x)
 
--- a turn is not made
-pub breaks : (w : Wanted) (e0 e : Engine) (p0 : Pending) (i : Held) (out0 reported0 out reported : Option (List ℕ)) → Running w e0 p0 out0 reported0 e i out reported → HandBreaks w e0 p0 (writers out0 out reported0 reported)
-breaks w e0 e p0 i out0 reported0 out reported r = record {
-  o = r.o ++ [];
+-- a turn is not made, and a beginning of what was buffered before it was written
+pub breaks : (w : Wanted) (e0 e : Engine) (p0 : Pending) (i : Held) (out0 reported0 out reported out' : Option (List ℕ))
+    → Running w e0 p0 out0 reported0 e i out reported → HasBegun out out' e.output
+    → HandBreaks w e0 p0 (writers out0 out' reported0 reported)
+breaks w e0 e p0 i out0 reported0 out reported out' r b = record {
+  o = r.o ++ (b.1).front;
   m = r.m ++ [];
-  written = more_written r.o r.m [] [] out0 out out reported0 reported reported r.written (with_bytes-nil out) (with_bytes-nil reported);
-  made = λ z more c a b.
-      subst (λ (v : RunSoFar). HasMade (a ++ (r.o ++ [])) (b ++ (r.m ++ [])) v)
-      (ap so_far_in (leads_same w wanted.Token e0 e p0 i.pending r.o r.m r.leads z more c a b))
-      (has_made a b r.o r.m [] [] e _ e.output e.messages refl refl (meaning_keeps (a ++ r.o) (b ++ r.m) e (longer z more i.pending)));
+  written = more_written r.o r.m (b.1).front [] out0 out out' reported0 reported reported r.written (b.1).holds (with_bytes-nil reported);
+  made = λ z more c x y.
+      subst (λ (v : RunSoFar). HasMade (x ++ (r.o ++ (b.1).front)) (y ++ (r.m ++ [])) v)
+      (ap so_far_in (leads_same w wanted.Token e0 e p0 i.pending r.o r.m r.leads z more c x y))
+      (has_made x y r.o r.m (b.1).front [] e _ b.0 e.messages (b.1).parts refl (meaning_keeps (x ++ r.o) (y ++ r.m) e (longer z more i.pending)));
 }
 
 -- what a turn has made is a part of what the expansion comes to
@@ -433,9 +439,77 @@ write_breaks_in_order w e0 e e' p0 i j t earlier out0 reported0 out reported out
           marked = mark_turn w e0 e e' p0 i j t r.o r.m q.0 ((b.1).1).front (b.1).0 r.leads h k ((b.1).1).parts;
         }
 
--- an allocation failed in a turn
-pub lack_breaks_in_order : (w : Wanted) (e0 e : Engine) (p0 : Pending) (i : Held) (out0 reported0 out reported : Option (List ℕ)) → Running w e0 p0 out0 reported0 e i out reported → BreaksInOrder w e0 p0 (writers out0 out reported0 reported)
-lack_breaks_in_order w e0 e p0 i out0 reported0 out reported r = record { o = r.o; m = r.m; written = r.written; marked = r.marked }
+-- an allocation failed in a turn, and a beginning of what was buffered before it was written
+pub lack_breaks_in_order : (w : Wanted) (e0 e : Engine) (p0 : Pending) (i : Held)
+    (out0 reported0 out reported out' : Option (List ℕ)) → Running w e0 p0 out0 reported0 e i out reported
+    → HasBegun out out' e.output → BreaksInOrder w e0 p0 (writers out0 out' reported0 reported)
+lack_breaks_in_order w e0 e p0 i out0 reported0 out reported out' r b = record {
+  o = r.o ++ (b.1).front;
+  m = r.m;
+  written = record {
+    output = (more_written r.o r.m (b.1).front [] out0 out out' reported0 reported reported r.written (b.1).holds (with_bytes-nil reported)).output;
+    messages = (r.written).messages;
+  };
+  marked = mark_more w e0 p0 r.o r.m (b.1).front r.marked;
+}
+
+-- by the cause that giving it out ends with
+begun_by : (x : List ℕ) (out out' : Option (List ℕ)) (cause : Cause) → GivesOut x out out' cause → HasBegun out out' x
+begun_by x out out' causes.OutOfMemory g = all_begun out out' x g
+begun_by x out out' causes.Write g = g
+begun_by x out out' cause g = absurd g
+
+-- it ends by a fault
+breaks_by : (x : List ℕ) (out out' : Option (List ℕ)) (cause : Cause) → GivesOut x out out' cause → (cause ≡ causes.OutOfMemory) ⊎ (cause ≡ causes.Write)
+breaks_by x out out' causes.OutOfMemory g = inl refl
+breaks_by x out out' causes.Write g = inr refl
+breaks_by x out out' cause g = absurd g
+
+-- what was kept of the buffer is what was buffered before
+kept_front : (n : ℕ) (x all : List ℕ) (out out' : Option (List ℕ)) (cause : Cause) → n ≡ length x → HasFront x all
+    → GivesOut (take n all) out out' cause → GivesOut x out out' cause
+kept_front n x all out out' cause l h g = subst (λ (v : List ℕ). GivesOut v out out' cause) (front_taken n x all h.more l h.parts) g
+
+-- an allocation failed in a turn, and what was buffered before it was given out
+pub lack_gives : (w : Wanted) (e0 e e' new : Engine) (i0 i j : Held) (n : ℕ) (out0 reported0 out reported out' : Option (List ℕ)) (cause : Cause)
+    → Running w e0 i0.pending out0 reported0 e i out reported → n ≡ length e.output → KeepsOutput e e'
+    → GivesOut (take n e'.output) out out' cause
+    → HandGives w e0 new i0 j (writers out0 out' reported0 reported) (Err cause)
+lack_gives w e0 e e' new i0 i j n out0 reported0 out reported out' cause r l k g = by (breaks_by _ _ _ _ g)
+  where
+    broken : HandBreaks w e0 i0.pending (writers out0 out' reported0 reported)
+    broken = breaks w e0 e i0.pending i out0 reported0 out reported out' r
+        (begun_by e.output out out' cause (kept_front n e.output e'.output out out' cause l k g))
+
+    by : (cause ≡ causes.OutOfMemory) ⊎ (cause ≡ causes.Write) → HandGives w e0 new i0 j (writers out0 out' reported0 reported) (Err cause)
+    by (inl q) = subst (λ (v : Cause). HandGives w e0 new i0 j (writers out0 out' reported0 reported) (Err v)) (sym q) broken
+    by (inr q) = subst (λ (v : Cause). HandGives w e0 new i0 j (writers out0 out' reported0 reported) (Err v)) (sym q) broken
+
+pub lack_gives_in_order : (w : Wanted) (e0 e e' : Engine) (p0 : Pending) (i : Held) (n : ℕ) (out0 reported0 out reported out' : Option (List ℕ)) (cause : Cause)
+    → Running w e0 p0 out0 reported0 e i out reported → n ≡ length e.output → KeepsOutput e e'
+    → GivesOut (take n e'.output) out out' cause
+    → OrderBy w e0 p0 (writers out0 out' reported0 reported) (Err cause)
+lack_gives_in_order w e0 e e' p0 i n out0 reported0 out reported out' cause r l k g = by (breaks_by _ _ _ _ g)
+  where
+    broken : BreaksInOrder w e0 p0 (writers out0 out' reported0 reported)
+    broken = lack_breaks_in_order w e0 e p0 i out0 reported0 out reported out' r
+        (begun_by e.output out out' cause (kept_front n e.output e'.output out out' cause l k g))
+
+    by : (cause ≡ causes.OutOfMemory) ⊎ (cause ≡ causes.Write) → OrderBy w e0 p0 (writers out0 out' reported0 reported) (Err cause)
+    by (inl q) = subst (λ (v : Cause). OrderBy w e0 p0 (writers out0 out' reported0 reported) (Err v)) (sym q) broken
+    by (inr q) = subst (λ (v : Cause). OrderBy w e0 p0 (writers out0 out' reported0 reported) (Err v)) (sym q) broken
+
+-- it failed as often as its cause says
+pub lack_counted : (x : List ℕ) (before after : Option (List ℕ)) (cause : Cause) (out0 out out' reported0 reported : ℕ)
+    → GivesOut x before after cause → ByCause cause (out' ≡ out) (out' ≡ one_more out)
+    → out ≡ out0 → reported ≡ reported0 → FailsBy cause (writers out0 out' reported0 reported)
+lack_counted x before after cause out0 out out' reported0 reported g k f h = by (breaks_by _ _ _ _ g)
+  where
+    by : (cause ≡ causes.OutOfMemory) ⊎ (cause ≡ causes.Write) → FailsBy cause (writers out0 out' reported0 reported)
+    by (inl q) = subst (λ (v : Cause). FailsBy v (writers out0 out' reported0 reported)) (sym q)
+        (subst (λ (v : Cause). ByCause v (out' ≡ out) (out' ≡ one_more out)) q k ∙ f, h)
+    by (inr q) = subst (λ (v : Cause). FailsBy v (writers out0 out' reported0 reported)) (sym q)
+        (inl (subst (λ (v : Cause). ByCause v (out' ≡ out) (out' ≡ one_more out)) q k ∙ ap one_more f, h))
 
 pub in_order_end : (w : Wanted) (e : Engine) (p : Pending) (c : Contents) (end : TurnEnd) → OrderBy w e p c (Err (cause_of_end end))
 in_order_end w e p c turn_ends.Done = tt

@@ -3,7 +3,7 @@ use Rattle.std.proofs.Common.{◌≡◌, Some, None, ℕ, Bool, true, false, Lis
 use Rattle.std.proofs.Common.{sym, ap, ◌∙◌, subst, drop, Option, ◌<◌, arith}
 use Rattle.m4_state.specs.declared.definition.Def.{Def}
 use Rattle.m4_input.specs.declared.front.Answer.TheVariants.{Yes}
-use Rattle.std.specs.Prelude.{suc, nat_lt, not, ◌&&◌, length, Result, Ok, Err, IfOk}
+use Rattle.std.specs.Prelude.{nat_lt, not, ◌&&◌, length, Result, Ok, Err, IfOk}
 use Rattle.m4_state.specs.State.{State}
 use Rattle.m4_input.specs.Pending.{Pending, text_of, consumed}
 use Rattle.m4_input.specs.Paren.{paren_in, paren_from, paren_at}
@@ -14,9 +14,9 @@ use Rattle.m4_builtins.specs.declared.place.Place.{Place}
 use Rattle.m4_builtins.specs.Act.{needs_list}
 use Rattle.m4_engine.specs.declared.turned.Turned.{Turned}
 use Rattle.m4_builtins.specs.declared.fault.BuiltinFault.{BuiltinFault as TurnFault}
-use Rattle.m4_engine.specs.Expansion.{Call, Limits, place_at, issued, reading, put_text}
+use Rattle.m4_engine.specs.Expansion.{Call, place_at, issued, reading, put_text}
 use Rattle.m4_engine.specs.Expand.{call, call_of, take_call, call_without_list, take_name}
-use Rattle.m4_engine.specs.Lookahead.{IsExpansion, IsCalled}
+use Rattle.m4_engine.specs.Lookahead.{Recognises, IsExpansion, IsCalled}
 use Rattle.m4_engine.specs.Engine.{Engine, outer_of, here_of, allows_call, configuration, put_in, with_text}
 use Rattle.m4_engine.specs.Engine.{with_one_call, with_made, is_deep_in}
 use Rattle.m4_engine.specs.Turns.{step, Extended, Moves}
@@ -34,16 +34,6 @@ use Rattle.m4_engine.proofs.Bare.{bare_goes}
 use Rattle.m4_engine.proofs.Longer.{paren_longer}
 use Rattle.m4_engine.proofs.Named.{named}
 
--- whether the limits leave a call, by what that depends on
-abbrev leaves_by : ℕ → Limits → ℕ → Bool
-leaves_by calls l depth = nat_lt calls l.calls && not (nat_lt 0 l.nesting && nat_lt l.nesting (suc depth))
-
-pub leaves_same : (e e1 : Engine) → e1.calls ≡ e.calls → e1.limits ≡ e.limits → length e1.open_calls ≡ length e.open_calls → allows_call e ≡ allows_call e1
-leaves_same e e1 h i j =
-    ap (λ n. leaves_by n e.limits (length e.open_calls)) (sym h)
-    ∙ ap (λ l. leaves_by e1.calls l (length e.open_calls)) (sym i)
-    ∙ ap (leaves_by e1.calls e1.limits) (sym j)
-
 -- the limits allow a call
 pub room_allows : (e : Engine) → allows_call e ≡ true → (nat_lt e.calls (e.limits).calls ≡ true) × (is_deep_in e ≡ false)
 room_allows e h = by_parts (nat_lt e.calls (e.limits).calls) (is_deep_in e) h
@@ -52,6 +42,20 @@ room_allows e h = by_parts (nat_lt e.calls (e.limits).calls) (is_deep_in e) h
     by_parts false d e = cc
     by_parts true true e = cc
     by_parts true false e = (refl, refl)
+
+-- they allow none, though the count of calls does
+pub room_refused : (e : Engine) → allows_call e ≡ false → nat_lt e.calls (e.limits).calls ≡ true → is_deep_in e ≡ true
+room_refused e h f = by_parts (nat_lt e.calls (e.limits).calls) (is_deep_in e) h f
+  where
+    by_parts : (r d : Bool) → r && not d ≡ false → r ≡ true → d ≡ true
+    by_parts r true h f = refl
+    by_parts true false h f = cc
+    by_parts false false h f = cc
+
+-- a name that is recognised is called, at any place
+abbrev pub recognised_call : (listed : Bool) (s : State) (name : List ℕ) (at : Place) → Recognises listed s name
+    → (c : Call) × IsCalled c s name × (c.place ≡ at) × (listed ≡ false → needs_list c.definition ≡ false)
+recognised_call listed s name at h = (call_of h.0 name at, (h.1, refl, refl), refl, h.2)
 
 -- whether a list follows so many bytes, once these were consumed
 pub list_there : (q c : Delimiters) (p r : Pending) (n : ℕ) (v : Answer) → r ≡ consumed n p → paren_in q c p.may_follow (drop n (text_of p)) ≡ v → paren_at q c r ≡ v

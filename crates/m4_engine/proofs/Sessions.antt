@@ -29,7 +29,7 @@ use Rattle.m4_engine.specs.Expands.{at_rest}
 use Rattle.m4_engine.specs.Session.{SessionState, progress_of, written, how_over, IsOpen, Completed, FileDone}
 use Rattle.m4_engine.specs.Session.{FileAsked, FileEnded, FileBroke, FileFell, FileGives, BrokeOff, WrapsGive}
 use Rattle.m4_engine.specs.Session.{round_of, answer_by, over_after, session_after_wraps, last_state, Unfinished}
-use Rattle.m4_engine.specs.Session.{EndGives, FinishGives, FreezeGives, CloseGives}
+use Rattle.m4_engine.specs.Session.{EndGives, FinishGives, FreezeBegan, FreezeGives, CloseGives}
 use Rattle.m4_engine.specs.SessionFailures.{ReadFails}
 use Rattle.m4_engine.specs.Writers.{Contents, Three, Broken, writers, HasWritten}
 
@@ -431,22 +431,28 @@ froze old new s out reported frozen frozen' l e i n f z =
     )
 
 -- the frozen text broke off
+pub freeze_began : (old : SessionState) (s : State) (out reported frozen frozen' : Option (List ℕ))
+    → IsOpen old → old.saved ≡ [] → s ≡ old.state → HasBegun frozen frozen' (freeze s)
+    → FreezeBegan old (record { two = writers out out reported reported; frozen_old = frozen; frozen_new = frozen' })
+freeze_began old s out reported frozen frozen' l v i f =
+    let p : progress_of old ≡ session_after_wraps old = sym (after_is old l v) in
+    let t : s ≡ last_state old = i ∙ ap (λ (x : Progress). (x.so_far).state) p in
+    record {
+      ended = ap (λ (x : Progress). x.over) (sym p) ∙ ap how_over l.over;
+      begun = subst (λ x. HasBegun frozen frozen' (freeze x)) t f;
+      output = with_bytes-nil out ∙ ap (λ (x : Progress). with_bytes out (x.so_far).output) p;
+      messages = with_bytes-nil reported ∙ ap (λ (x : Progress). with_bytes reported (x.so_far).messages) p;
+    }
+
 pub freeze_broke : (old new : SessionState) (s : State) (r : Result Unit Stop) (out reported frozen frozen' : Option (List ℕ))
     → IsOpen old → old.saved ≡ [] → s ≡ old.state → r ≡ Err (stops.Ended causes.Write) → new.over ≡ Some causes.Write
     → HasBegun frozen frozen' (freeze s)
     → FreezeGives old new
     (record { two = writers out out reported reported; frozen_old = frozen; frozen_new = frozen' }) r
 freeze_broke old new s r out reported frozen frozen' l v i k o f =
-    let p : progress_of old ≡ session_after_wraps old = sym (after_is old l v) in
-    let t : s ≡ last_state old = i ∙ ap (λ (x : Progress). (x.so_far).state) p in
     subst (λ (x : Result Unit Stop). FreezeGives old new (record { two = writers out out reported reported; frozen_old = frozen; frozen_new = frozen' }) x) (sym k) (
       broke_off true old new (writers out out reported reported) causes.Write l v o refl (nothing_begun out _),
-      inr (record {
-        ended = ap (λ (x : Progress). x.over) (sym p) ∙ ap how_over l.over;
-        begun = subst (λ x. HasBegun frozen frozen' (freeze x)) t f;
-        output = with_bytes-nil out ∙ ap (λ (x : Progress). with_bytes out (x.so_far).output) p;
-        messages = with_bytes-nil reported ∙ ap (λ (x : Progress). with_bytes reported (x.so_far).messages) p;
-      }),
+      inr (freeze_began old s out reported frozen frozen' l v i f),
     )
 
 -- the end of a run, of the writers of output and messages

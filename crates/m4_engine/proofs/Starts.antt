@@ -32,7 +32,7 @@ use Rattle.m4_engine.specs.SessionFailures.{ReloadFails, ByAnswer, MessageWriteF
 use Rattle.m4_engine.specs.RunSources.{AllPairs, is_sound, ReadersFailBy, DescribesFrozen, frozen_fails}
 use Rattle.m4_engine.specs.RunSources.{FrozenFailsBy, IsUnrefused}
 use Rattle.m4_engine.specs.WholeRun.{WroteAll, WrotePrefix, GivesBy, RefusedBy, HasFrozen, FrozenBegan, FrozenBy}
-use Rattle.m4_engine.specs.WholeRun.{RunGives, NothingIsDone, result_after, ending_by}
+use Rattle.m4_engine.specs.WholeRun.{FrozenLast, RunGives, NothingIsDone, result_after, ending_by}
 use Rattle.m4_engine.specs.Writers.{Contents, Three, writers, ByCause, NoneOfThree, OneOfThree, IsSpared, Spares}
 use Rattle.m4_engine.proofs.Begins.{nothing_begun, begun_after}
 use Rattle.m4_engine.proofs.OnePass.{over_sources, over_wraps}
@@ -157,6 +157,14 @@ module _ (x : List ℕ) (r : RunResult) (out0 out1 out2 reported reported' froze
   issued_gives : (d : Ending) → RunGives r d V → RunGives (issuing x r) d W
   issued_gives d h = record { gives = gives d.cause d h.gives; frozen = froze d.cause h.frozen }
 
+  last_or : {P : Type 0} → P ⊎ FrozenBegan r V → P ⊎ FrozenBegan (issuing x r) W
+  last_or (inl h) = inl h
+  last_or (inr h) = inr (began h)
+
+  issued_last : {Z : Type 0} → (c : Cause) (z z' : Z) → FrozenLast c r z z' V → FrozenLast c (issuing x r) z z' W
+  issued_last causes.Write z z' h = last_or h
+  issued_last c z z' h = tt
+
 -- a run that began
 pub begun_gives : (o : Options) (start : Start) (ss : List Source) (s : SessionState) (st : Result SessionState Stop)
     (d x : Ending) (out0 out1 out2 reported reported' frozen frozen' : Option (List ℕ)) → st ≡ Ok s → d ≡ x
@@ -175,6 +183,25 @@ begun_gives o start ss s st d x out0 out1 out2 reported reported' frozen frozen'
     subst (λ (y : Ending). RunGives (run_from o start ss) y w) (sym j)
     (subst (λ (y : RunResult). RunGives y x w) (sym n)
     (issued_gives k.1 r out0 out1 out2 reported reported' frozen frozen' k.4 x g))
+
+-- the same of the writer of the frozen text
+pub begun_last : {Z : Type 0} → (o : Options) (start : Start) (ss : List Source) (s : SessionState) (st : Result SessionState Stop)
+    (c d : Cause) (z z' : Z) (out0 out1 out2 reported reported' frozen frozen' : Option (List ℕ)) → st ≡ Ok s → d ≡ c
+    → BeginGives start o out0 out1 st
+    → FrozenLast c (result_after o.freeze s.limits ss (after_sources s.limits ss (progress_of s))) z z'
+    (record { two = writers out1 out2 reported reported'; frozen_old = frozen; frozen_new = frozen' })
+    → FrozenLast d (run_from o start ss) z z'
+    (record { two = writers out0 out2 reported reported'; frozen_old = frozen; frozen_new = frozen' })
+begun_last o start ss s st c d z z' out0 out1 out2 reported reported' frozen frozen' i j b h =
+    let k = subst (BeginGives start o out0 out1) i b in
+    let v : Three (Option (List ℕ)) = record { two = writers out1 out2 reported reported'; frozen_old = frozen; frozen_new = frozen' } in
+    let w : Three (Option (List ℕ)) = record { two = writers out0 out2 reported reported'; frozen_old = frozen; frozen_new = frozen' } in
+    let r : RunResult = result_after o.freeze (limits_of o) ss (after_sources (limits_of o) ss (progress_of (session_from o k.0))) in
+    let g : FrozenLast c r z z' v = subst (λ (y : SessionState). FrozenLast c (result_after o.freeze y.limits ss (after_sources y.limits ss (progress_of y))) z z' v) k.3 h in
+    let n : run_from o start ss ≡ issuing k.1 r = ap (λ (y : Start). run_from o y ss) k.2 ∙ run_after o k.0 k.1 ss in
+    subst (λ (y : Cause). FrozenLast y (run_from o start ss) z z' w) (sym j)
+    (subst (λ (y : RunResult). FrozenLast c y z z' w) (sym n)
+    (issued_last k.1 r out0 out1 out2 reported reported' frozen frozen' k.4 c z z' g))
 
 -- the state that such a run freezes
 pub begun_state : (P : State → Type 0) (o : Options) (start : Start) (ss : List Source) (s : SessionState)

@@ -17,10 +17,10 @@ use Rattle.m4_engine.specs.Wraps.{read_saved, next_round, rounds, after_wraps, c
 use Rattle.m4_engine.specs.Run.{RunResult, closed_output, frozen_text, result_by, result_of, saved_after}
 use Rattle.m4_engine.specs.Run.{saved_unless_over, status_of}
 use Rattle.m4_engine.specs.Session.{SessionState, progress_of, how_over, how_by, IsOpen, Completed, BrokeOff, GoesTo}
-use Rattle.m4_engine.specs.Session.{session_after_wraps, Closed, Unfinished, EndGives, FreezeBegan, FrozenGives}
+use Rattle.m4_engine.specs.Session.{session_after_wraps, Closed, Unfinished, EndGives, FreezeBegan, FreezeUses, FrozenGives}
 use Rattle.m4_engine.specs.Session.{CloseGives, is_saved, status_at, IsLeft}
 use Rattle.m4_engine.specs.WholeRun.{wrapped_by, WroteAll, WrotePrefix, GivesBy, HasFrozen, FrozenBegan, FrozenBy}
-use Rattle.m4_engine.specs.WholeRun.{RunGives, result_after, ending_by}
+use Rattle.m4_engine.specs.WholeRun.{FrozenLast, RunGives, result_after, ending_by}
 use Rattle.m4_engine.specs.Laws.{IsBeginning}
 use Rattle.m4_engine.specs.Writers.{Contents, Three, writers, IsSpared}
 use Rattle.m4_engine.proofs.OnlyGrows.{extends_same}
@@ -237,15 +237,14 @@ module _ (freezes : Bool) (limits : Limits) (ss : List Source) (p : Progress) (o
     frozen_well : freezes ≡ true → B.over ≡ None → FrozenGives mid LaterThree (Ok tt) → HasFrozen (result_after freezes limits ss p).frozen WholeThree
     frozen_well e o h = subst (λ (x : Option (List ℕ)). HasFrozen x WholeThree) (sym (frozen_is e o)) h.0
 
-    frozen_began : freezes ≡ true → IsSpared LaterThree ⊎ FreezeBegan mid LaterThree → IsSpared WholeThree ⊎ FrozenBegan (result_after freezes limits ss p) WholeThree
-    frozen_began e (inl h) = inl h
-    frozen_began e (inr h) =
+    frozen_began_so : freezes ≡ true → FreezeBegan mid LaterThree → FrozenBegan (result_after freezes limits ss p) WholeThree
+    frozen_began_so e h =
         let q : (result_after freezes limits ss p).output ≡ (p.so_far).output ++ (B.so_far).output =
         ap (λ (r : RunResult). r.output) (result_is None h.ended)
         ∙ ap (λ b. closed_output b (after (p.so_far).output (p.so_far).messages B).so_far) e in
         let k : (result_after freezes limits ss p).messages ≡ (p.so_far).messages ++ (B.so_far).messages =
         ap (λ (r : RunResult). r.messages) (result_is None h.ended) in
-        inr (record {
+        record {
           text = freeze (B.so_far).state;
           is = frozen_is e h.ended;
           begun = h.begun;
@@ -253,7 +252,23 @@ module _ (freezes : Bool) (limits : Limits) (ss : List Source) (p : Progress) (o
               ∙ with_bytes-append out0 (p.so_far).output (B.so_far).output ∙ ap (with_bytes out0) (sym q);
           messages = h.messages ∙ ap (λ (x : Option (List ℕ)). with_bytes x (B.so_far).messages) f.messages
               ∙ with_bytes-append reported0 (p.so_far).messages (B.so_far).messages ∙ ap (with_bytes reported0) (sym k);
-        })
+        }
+
+    frozen_began : freezes ≡ true → IsSpared LaterThree ⊎ FreezeBegan mid LaterThree → IsSpared WholeThree ⊎ FrozenBegan (result_after freezes limits ss p) WholeThree
+    frozen_began e (inl h) = inl h
+    frozen_began e (inr h) = inr (frozen_began_so e h)
+
+    -- its writer was not used, or everything else was written before
+    last_write : {Z : Type 0} → (z z' : Z) (b : Bool) → b ≡ freezes → (freezes ≡ false → z' ≡ z)
+        → (z' ≡ z) ⊎ FreezeBegan mid LaterThree → (z' ≡ z) ⊎ FrozenBegan (result_after freezes limits ss p) WholeThree
+    last_write z z' b t u (inl h) = inl h
+    last_write z z' true t u (inr h) = inr (frozen_began_so (sym t) h)
+    last_write z z' false t u (inr h) = inl (u (sym t))
+
+    last_end : {Z : Type 0} → (z z' : Z) (e : Stop) → (freezes ≡ false → z' ≡ z) → FreezeUses mid z z' LaterThree (Err e)
+        → FrozenLast (ending_by 0 (Err e)).cause (result_after freezes limits ss p) z z' WholeThree
+    last_end z z' (stops.Ended causes.Write) u h = last_write z z' freezes refl u h
+    last_end z z' e u h = tt
 
     frozen_late : freezes ≡ true → (e : Stop) → FrozenGives mid LaterThree (Err e) → IsOpen mid → EndGives freezes mid new V (Err e) → FrozenBy (ending_by (status_at new) (Err e)).cause (result_after freezes limits ss p) WholeThree
     frozen_late t stops.Finished h o k = absurd (k.closed o)
@@ -346,6 +361,31 @@ late_so freezes limits ss p old mid new out0 out1 out2 reported0 reported1 repor
     let v : Three (Option (List ℕ)) = record { two = writers out1 out2 reported1 reported2; frozen_old = frozen; frozen_new = frozen' } in
     subst (λ (x : Result Bool Stop). RunGives (result_after freezes limits ss p) (ending_by (status_at new) x) (record { two = writers out0 out2 reported0 reported2; frozen_old = frozen; frozen_new = frozen' })) (sym j)
     (late_by freezes limits ss p old mid new out0 out1 out2 reported0 reported1 reported2 l f.0 f.1 frozen frozen' freezes refl e o (subst (CloseGives freezes mid new v) i h))
+
+-- a run that its end breaks off
+pub last_so : {Z : Type 0} → (z z' : Z) (freezes : Bool) (limits : Limits) (ss : List Source) (p : Progress) (old mid new : SessionState)
+    (out0 out1 out2 reported0 reported1 reported2 frozen frozen' : Option (List ℕ)) → old.limits ≡ limits
+    → GoesTo p old mid (writers out0 out1 reported0 reported1) (Ok tt)
+    → (e : Stop) (q : Result Unit Stop) (r : Result Bool Stop) → q ≡ Err e → r ≡ Err e → (freezes ≡ false → z' ≡ z)
+    → FreezeUses mid z z'
+    (record { two = writers out1 out2 reported1 reported2; frozen_old = frozen; frozen_new = frozen' }) q
+    → FrozenLast (ending_by 0 r).cause (result_after freezes limits ss p) z z'
+    (record { two = writers out0 out2 reported0 reported2; frozen_old = frozen; frozen_new = frozen' })
+last_so z z' freezes limits ss p old mid new out0 out1 out2 reported0 reported1 reported2 frozen frozen' l f e q r i j u h =
+    let v : Three (Option (List ℕ)) = record { two = writers out1 out2 reported1 reported2; frozen_old = frozen; frozen_new = frozen' } in
+    subst (λ (x : Result Bool Stop). FrozenLast (ending_by 0 x).cause (result_after freezes limits ss p) z z' (record { two = writers out0 out2 reported0 reported2; frozen_old = frozen; frozen_new = frozen' })) (sym j)
+    (last_end freezes limits ss p old mid new out0 out1 out2 reported0 reported1 reported2 l f.0 f.1 frozen frozen' z z' e u (subst (FreezeUses mid z z' v) i h))
+
+-- the cause is that of the answer, whatever the status
+pub cause_same : (m n : ℕ) (r : Result Bool Stop) → (ending_by m r).cause ≡ (ending_by n r).cause
+cause_same m n (Ok wrapped) = refl
+cause_same m n (Err stops.Finished) = refl
+cause_same m n (Err (stops.Ended cause)) = refl
+
+-- the writer of the frozen text was not used
+pub last_unused : {Z : Type 0} → (cause : Cause) (r : RunResult) (z z' : Z) (w : Three (Option (List ℕ))) → z' ≡ z → FrozenLast cause r z z' w
+last_unused causes.Write r z z' w h = inl h
+last_unused cause r z z' w h = tt
 
 pub well_so : (freezes : Bool) (limits : Limits) (ss : List Source) (old mid new : SessionState)
     (out0 out1 out2 reported0 reported1 reported2 frozen frozen' : Option (List ℕ)) → old.limits ≡ limits

@@ -17,7 +17,7 @@ use Rattle.m4_engine.specs.File.{Progress}
 use Rattle.m4_engine.specs.Run.{closed_output, result_by, result_of}
 use Rattle.m4_engine.specs.Session.{SessionState, progress_of, how_over, written, IsOpen, Completed, BrokeOff, GoesTo}
 use Rattle.m4_engine.specs.Session.{WrapsGive, round_of, session_after_wraps, last_state, is_saved, Closed}
-use Rattle.m4_engine.specs.Session.{Unfinished, EndGives, FinishGives, FreezeBegan, FrozenGives, FreezeGives}
+use Rattle.m4_engine.specs.Session.{Unfinished, EndGives, FinishGives, FreezeBegan, FrozenGives, FreezeGives, FreezeUses}
 use Rattle.m4_engine.specs.Wraps.{next_round, read_saved, after_wraps, close}
 use Rattle.m4_engine.specs.Order.{IsTurnOfRound, InRounds, InSomeRound, Breaks, BreaksBy}
 use Rattle.m4_engine.specs.Writers.{Contents, Three, writers}
@@ -312,6 +312,24 @@ freeze_then old mid new out0 out1 out2 reported0 reported1 reported2 frozen froz
   end_then true old mid new out0 out1 out2 reported0 reported1 reported2 g.0 g.1 none any_missing r k.0,
   frozen_then true old mid new out0 out1 out2 reported0 reported1 reported2 g.0 g.1 none any_missing frozen frozen' r k.1,
 )
+
+-- the frozen text was begun, after the saved texts
+pub uses_then : (old mid new : SessionState) (out0 out1 out2 reported0 reported1 reported2 frozen frozen' : Option (List ℕ))
+    → GoesTo (session_after_wraps old) old mid (writers out0 out1 reported0 reported1) (Ok tt) → mid.saved ≡ []
+    → mid.any_missing ≡ old.any_missing → {Z : Type 0} → (z z' : Z) (r : Result Unit Stop) → r ≡ Err (stops.Ended causes.Write)
+    → FreezeBegan mid (record { two = writers out1 out2 reported1 reported2; frozen_old = frozen; frozen_new = frozen' })
+    → FreezeUses old z z' (record { two = writers out0 out2 reported0 reported2; frozen_old = frozen; frozen_new = frozen' }) r
+uses_then old mid new out0 out1 out2 reported0 reported1 reported2 frozen frozen' g none any_missing z z' r e h =
+    subst (λ (x : Result Unit Stop). FreezeUses old z z' (record { two = writers out0 out2 reported0 reported2; frozen_old = frozen; frozen_new = frozen' }) x) (sym e)
+    (inr (began_then true old mid new out0 out1 out2 reported0 reported1 reported2 g.0 g.1 none any_missing frozen frozen' h))
+
+-- it was not begun
+pub uses_none : {Z : Type 0} → (old : SessionState) (z z' : Z) (w : Three (Option (List ℕ))) (r : Result Unit Stop) → z' ≡ z → FreezeUses old z z' w r
+uses_none old z z' w (Err (stops.Ended causes.Write)) h = inl h
+uses_none old z z' w r h = tt
+
+pub uses_without_memory : {Z : Type 0} → (old : SessionState) (z z' : Z) (w : Three (Option (List ℕ))) (r : Result Unit Stop) → r ≡ Err (stops.Ended causes.OutOfMemory) → FreezeUses old z z' w r
+uses_without_memory old z z' w r e = subst (λ (x : Result Unit Stop). FreezeUses old z z' w x) (sym e) tt
 
 pub finish_then : (old mid new : SessionState) (out0 out1 out2 reported0 reported1 reported2 : Option (List ℕ))
     → GoesTo (session_after_wraps old) old mid (writers out0 out1 reported0 reported1) (Ok tt) → mid.saved ≡ []

@@ -1,8 +1,9 @@
 -- Continued: an expansion of which the bytes in hand were expanded, whatever follows them.
 -- Not believed: it connects the driver with `Expand`.
 -- Words: comes_to, stands, Leads, Marked, IsMarked, IsFlushed, HandNeeds, HandEnds, HasMade, HandBreaks, BreaksInOrder,
--- OrderBy, HandGives.
-use Rattle.std.specs.Prelude.{◌≡◌, ◌⊎◌, ℕ, Bool, true, List, [], ◌++◌, Result, Ok, Err}
+-- OrderBy, HandGives, GivesOut.
+use Rattle.std.specs.Prelude.{◌≡◌, ◌⊎◌, ℕ, Bool, true, List, [], ◌++◌, Option, Result, Ok, Err}
+use Rattle.m4_state.specs.Device.{with_bytes, HasBegun}
 use Rattle.m4_input.specs.declared.fault.InputFault.{InputFault}
 use Rattle.m4_input.specs.declared.fault.InputFault.TheVariants as faults
 use Rattle.m4_input.specs.Pending.{Pending, text_of, line_length}
@@ -133,6 +134,12 @@ HandGives w old new i j c (Err (causes.Frozen fault)) = ⊥
 HandGives w old new i j c (Err causes.Write) = HandBreaks w old i.pending c
 HandGives w old new i j c (Err causes.OutOfMemory) = HandBreaks w old i.pending c
 HandGives w old new i j c (Err cause) = HandEnds w old i.pending cause new c
+
+-- by the cause that ends an expansion without memory: all of this output was written, or a beginning of it
+abbrev pub GivesOut : List ℕ → Option (List ℕ) → Option (List ℕ) → Cause → Type 0
+GivesOut x before after causes.OutOfMemory = after ≡ with_bytes before x
+GivesOut x before after causes.Write = HasBegun before after x
+GivesOut x before after cause = ⊥
 
 -- a write fault is that of a writer, which failed once; otherwise none did
 abbrev pub cause_of : Result Wanted Cause → Cause

@@ -176,6 +176,15 @@ engine_at s calls nesting = record {
   messages = [];
 }
 
+-- a text that begins with this one
+pub record HasFront (front all : List ℕ) : Type 0 where
+  pub more : List ℕ
+  pub parts : all ≡ front ++ more
+
+-- the buffered output is still there, perhaps with more after it
+abbrev pub KeepsOutput : Engine → Engine → Type 0
+KeepsOutput old new = HasFront old.output new.output
+
 -- whether the limits allow a call
 abbrev pub allows_call : Engine → Bool
 allows_call e = nat_lt e.calls (e.limits).calls && not (is_deep_in e)

@@ -1,6 +1,6 @@
 -- Lookahead: the next token, as it was recognised before a turn consumes it.
 -- Not believed: it connects the code with `Expand`; the turns' lemmas prove that they agree.
--- Words: IsExpansion, IsCalled, IsNamed, IsAhead, IsLookaheadOf.
+-- Words: IsExpansion, IsCalled, Recognises, IsNamed, IsAhead, IsLookaheadOf.
 use Rattle.std.specs.Prelude.{◌≡◌, ◌≢◌, ◌<◌, ◌≤◌, ◌-◌, Bool, true, false, ℕ, List, [], None, Some, length, take, drop}
 use Rattle.m4_state.specs.declared.builtin.Builtin.TheVariants.{Dnl}
 use Rattle.m4_state.specs.declared.definition.Def.TheVariants.{Text, Builtin}
@@ -11,6 +11,8 @@ use Rattle.m4_input.specs.Pending.{Pending, text_of}
 use Rattle.m4_input.specs.Token.{scan}
 use Rattle.m4_input.specs.Paren.{paren_in}
 use Rattle.m4_input.specs.Input.{answer_of}
+use Rattle.m4_state.specs.declared.definition.Def.{Def}
+use Rattle.m4_builtins.specs.Act.{needs_list}
 use Rattle.m4_builtins.specs.Subst.{subst}
 use Rattle.m4_engine.specs.Collected.{IsText}
 use Rattle.m4_engine.specs.Expansion.{Call}
@@ -30,30 +32,35 @@ abbrev pub IsCalled : Call → State → List ℕ → Type 0
 IsCalled c s name =
     (top_of s name ≡ Some c.definition) × (c.name ≡ name) × (c ≡ call_of c.definition c.name c.place)
 
+-- a name is recognised: it has a definition, which needs no list if none follows
+abbrev pub Recognises : Bool → State → List ℕ → Type 0
+Recognises listed s name =
+    (f : Def) × (top_of s name ≡ Some f) × (listed ≡ false → needs_list f ≡ false)
+
 -- the first token of a text is a name of n bytes, after which a list follows or not
 pub record IsNamed (n : ℕ) (listed : Bool) (s : State) (m : Bool) (x : List ℕ) : Type 0 where
   pub scanned : scan s.quotes s.comments m x ≡ Found (Name (take n x)) n
   pub within : n ≤ length x
   pub list : paren_in s.quotes s.comments m (drop n x) ≡ answer_of listed
 
--- the lookahead, with the next call c, is right for the first token of a text; `room` says that the limits allow a call
-abbrev pub IsAhead : Lookahead → Call → State → Bool → Bool → List ℕ → Type 0
-IsAhead aheads.Definition c s room m x = ⊥
-IsAhead (aheads.Text begin end n) c s room m x =
+-- the lookahead, with the next call c, is right for the first token of a text
+abbrev pub IsAhead : Lookahead → Call → State → Bool → List ℕ → Type 0
+IsAhead aheads.Definition c s m x = ⊥
+IsAhead (aheads.Text begin end n) c s m x =
     IsText s m n (take (end - begin) (drop begin x)) x × (begin ≤ end) × (end ≤ length x) × (n ≤ length x)
-IsAhead (aheads.Byte b) c s room m x = (scan s.quotes s.comments m x ≡ Found (Byte b) 1) × (0 < length x)
-IsAhead (aheads.Expansion n) c s room m x =
-    IsNamed n false s m x × (room ≡ true) × IsExpansion c s (take n x)
-IsAhead (aheads.LineSkip n) c s room m x =
-    IsNamed n false s m x × (room ≡ true) × (top_of s (take n x) ≡ Some (Builtin Dnl))
-IsAhead (aheads.Call n) c s room m x = IsNamed n false s m x × IsCalled c s (take n x)
-IsAhead (aheads.List n) c s room m x = IsNamed n true s m x × IsCalled c s (take n x)
-IsAhead aheads.End c s room m x = scan s.quotes s.comments m x ≡ Found End 0
-IsAhead (aheads.Unended what) c s room m x = scan s.quotes s.comments m x ≡ Broken what
-IsAhead aheads.Undecided c s room m x = IsUndecided s m x
-IsAhead aheads.Further c s room m x = ⊥
+IsAhead (aheads.Byte b) c s m x = (scan s.quotes s.comments m x ≡ Found (Byte b) 1) × (0 < length x)
+IsAhead (aheads.Expansion n) c s m x =
+    IsNamed n false s m x × IsExpansion c s (take n x)
+IsAhead (aheads.LineSkip n) c s m x =
+    IsNamed n false s m x × (top_of s (take n x) ≡ Some (Builtin Dnl))
+IsAhead (aheads.Call n) c s m x = IsNamed n false s m x × IsCalled c s (take n x)
+IsAhead (aheads.List n) c s m x = IsNamed n true s m x × IsCalled c s (take n x)
+IsAhead aheads.End c s m x = scan s.quotes s.comments m x ≡ Found End 0
+IsAhead (aheads.Unended what) c s m x = scan s.quotes s.comments m x ≡ Broken what
+IsAhead aheads.Undecided c s m x = IsUndecided s m x
+IsAhead aheads.Further c s m x = ⊥
 
 -- the lookahead is right for the next token
-abbrev pub IsLookaheadOf : Lookahead → Call → State → Bool → Pending → Type 0
-IsLookaheadOf aheads.Definition c s room p = p.definition ≢ None
-IsLookaheadOf a c s room p = (p.definition ≡ None) × IsAhead a c s room p.may_follow (text_of p)
+abbrev pub IsLookaheadOf : Lookahead → Call → State → Pending → Type 0
+IsLookaheadOf aheads.Definition c s p = p.definition ≢ None
+IsLookaheadOf a c s p = (p.definition ≡ None) × IsAhead a c s p.may_follow (text_of p)

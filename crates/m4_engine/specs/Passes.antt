@@ -9,7 +9,7 @@ use Rattle.m4_input.specs.Input.{Held}
 use Rattle.m4_engine.specs.declared.lookahead.Lookahead.{Lookahead}
 use Rattle.m4_engine.specs.declared.lookahead.Lookahead.TheVariants as aheads
 use Rattle.m4_engine.specs.Lookahead.{IsAhead, IsLookaheadOf}
-use Rattle.m4_engine.specs.Engine.{Engine, put_in, allows_call}
+use Rattle.m4_engine.specs.Engine.{Engine, put_in}
 
 -- outside of calls, with no definition before the text: its first tokens, which are plain text, were added where text
 -- goes: to the output, to a diversion, or nowhere
@@ -61,7 +61,7 @@ Passes old new i j = (ss : List (Engine × Held)) × ArePasses ss old new i j
 
 -- the lookahead, with the next call, is right for the next token
 abbrev pub IsLookahead : Lookahead → Call → Engine → Pending → Type 0
-IsLookahead a c e p = IsLookaheadOf a c e.state (allows_call e) p
+IsLookahead a c e p = IsLookaheadOf a c e.state p
 
 -- the first n bytes of a text are such tokens, and were added where they go
 abbrev pub PassesText : Bool → ℕ → List ℕ → Engine → Engine → Type 0
@@ -76,4 +76,4 @@ PassesText m n x old new =
 pub record PassesBy (n : ℕ) (a : Lookahead) (c : Call) (x : List ℕ) (more : Bool) (old new : Engine) : Type 0 where
   pub passes : PassesText more n x old new
   pub within : n ≤ length x
-  pub end : ((0 < n) × (a ≡ aheads.Further)) ⊎ IsAhead a c new.state (allows_call new) more (drop n x)
+  pub end : ((0 < n) × (a ≡ aheads.Further)) ⊎ IsAhead a c new.state more (drop n x)

@@ -18,7 +18,7 @@ use Rattle.m4_engine.specs.Run.{run, status_of}
 use Rattle.m4_engine.specs.RunSources.{AllConsumeOnly, DescribeSources, DescribesFrozen, FrozenFailsBy, MissedIn}
 use Rattle.m4_engine.specs.RunSources.{ReadersFailBy}
 use Rattle.m4_engine.specs.Start.{start_of}
-use Rattle.m4_engine.specs.WholeRun.{NothingIsDone, RunGives}
+use Rattle.m4_engine.specs.WholeRun.{FrozenLast, NothingIsDone, RunGives}
 use Rattle.m4_engine.specs.Writers.{Spares, Three, ThreeFailBy}
 
 -- a run's options, its readers before it and after it, the bytes and the failures of its three writers, and the writer
@@ -73,5 +73,9 @@ pub record IsRun {R Z : Type 0} (script : R → Option Script) (failures : R →
   -- faults leave beginnings: if a frozen file is refused, no source is read and nothing is written
   pub refused : (fault : FrozenFault) → e.cause ≡ causes.Frozen fault
       → NothingIsDone c.sources_old c.sources_new c.contents
+  -- faults leave beginnings: a write fault comes before the writer of the frozen text is used, or after everything else
+  -- was written
+  pub last : ForInputs script c (λ file ss. FrozenLast e.cause (run c.options file ss) c.freeze_old c.freeze_new
+      c.contents)
   -- whole run: only a run that freezes, and reached its end, uses the writer of the frozen text
   pub spared : ((c.options).freeze ≡ false → c.freeze_new ≡ c.freeze_old) × Spares e.cause c.contents

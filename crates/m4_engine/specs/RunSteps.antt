@@ -1,7 +1,7 @@
 -- RunSteps: how a run begins, what its steps write, and what they leave of its session and its writers.
 -- Not believed: it connects a session's calls with `RunPromises`.
--- Words: BeginGives, IsBegun, BeginFails, WritesInOrder, WritesToEnd, state_at_end, FreezesState, UsesWriters,
--- MarksUnopened, MarksAnyUnopened.
+-- Words: BeginGives, IsBegun, BeginFails, WritesInOrder, WritesToEnd, UsesLast, state_at_end, FreezesState,
+-- UsesWriters, MarksUnopened, MarksAnyUnopened.
 use Rattle.std.specs.Prelude.{◌≡◌, ◌≢◌, ℕ, Bool, true, false, List, Option, Some, None, Result, Ok, Err, OnOk, ◌||◌}
 use Rattle.m4_state.specs.Device.{HasBegun, with_bytes}
 use Rattle.m4_state.specs.State.{State, IsSized}
@@ -19,7 +19,7 @@ use Rattle.m4_engine.specs.RunSources.{IsUnrefused, MissedBy, any_unopened, is_u
 use Rattle.m4_engine.specs.Session.{SessionState, GoesTo, progress_of, session_from, status_at}
 use Rattle.m4_engine.specs.SessionFailures.{ReloadFails, ThreeFail, SparesBy}
 use Rattle.m4_engine.specs.Start.{Start, From, Faulty}
-use Rattle.m4_engine.specs.WholeRun.{RunGives, result_after, ending_by}
+use Rattle.m4_engine.specs.WholeRun.{FrozenLast, RunGives, result_after, ending_by}
 use Rattle.m4_engine.specs.Writers.{Contents, Three}
 
 -- a run begins from a start, whose issued text was written, or ends with the start's fault
@@ -67,6 +67,12 @@ pub record WritesToEnd (freezes : Bool) (ss : List Source) (old new : SessionSta
   pub gives : RunGives (result_after freezes old.limits ss (after_sources old.limits ss (progress_of old)))
       (ending_by (status_at new) r) w
   pub order : BreaksBy r (Breaks (IsStepOfRun old.limits ss) (progress_of old) w.two)
+
+-- the writer of the frozen text is used after everything else was written
+abbrev pub UsesLast : {Z : Type 0} → Bool → List Source → SessionState → Z → Z → Three (Option (List ℕ))
+    → Result Bool Stop → Type 0
+UsesLast freezes ss old z z' w r = FrozenLast (ending_by 0 r).cause
+    (result_after freezes old.limits ss (after_sources old.limits ss (progress_of old))) z z' w
 
 -- the state of a run after these sources and the texts that they saved
 abbrev pub state_at_end : SessionState → List Source → State

@@ -279,6 +279,11 @@ FrozenGives old w (Err stop) = IsSpared w
 abbrev pub FreezeGives : SessionState → SessionState → Three (Option (List ℕ)) → Result Unit Stop → Type 0
 FreezeGives old new w answer = EndGives true old new w.two answer × FrozenGives old w answer
 
+-- where a write fault ends the run, the writer of the frozen text was not used, or everything else was written before
+abbrev pub FreezeUses : {Z : Type 0} → SessionState → Z → Z → Three (Option (List ℕ)) → Result Unit Stop → Type 0
+FreezeUses old z z' w (Err (stops.Ended causes.Write)) = (z' ≡ z) ⊎ FreezeBegan old w
+FreezeUses old z z' w answer = Unit {0}
+
 -- the end of a run, and the contents of the frozen text's writer
 abbrev pub CloseGives : Bool → SessionState → SessionState → Three (Option (List ℕ)) → Result Unit Stop → Type 0
 CloseGives true old new w answer = FreezeGives old new w answer

@@ -1,6 +1,7 @@
 -- WholeRun: the bytes that a complete run writes, and its ending, by the definition of a run.
 -- Believed. Manual: "Invoking m4", "Fast loading of frozen state".
--- Words: wrapped_by, WroteAll, WrotePrefix, RunGives, HasFrozen, FrozenBegan, FrozenBy, NothingIsDone.
+-- Words: wrapped_by, WroteAll, WrotePrefix, RunGives, HasFrozen, FrozenBegan, FrozenBy, FrozenLast,
+-- NothingIsDone.
 use Rattle.std.specs.Prelude.{◌≡◌, ℕ, Bool, false, List, Option, Some, None, Result, Ok, Err, ◌⊎◌}
 use Rattle.m4_state.specs.Device.{with_bytes, HasBegun}
 use Rattle.m4_frozen.specs.declared.fault.FrozenKind.{FrozenKind}
@@ -66,6 +67,11 @@ abbrev pub FrozenBy : Cause → RunResult → Three (Option (List ℕ)) → Type
 FrozenBy causes.Done r w = HasFrozen r.frozen w
 FrozenBy causes.Write r w = IsSpared w ⊎ FrozenBegan r w
 FrozenBy cause r w = IsSpared w
+
+-- where a write fault ends the run, the writer of the frozen text was not used, or everything else was written before
+abbrev pub FrozenLast : {Z : Type 0} → Cause → RunResult → Z → Z → Three (Option (List ℕ)) → Type 0
+FrozenLast causes.Write r z z' w = (z' ≡ z) ⊎ FrozenBegan r w
+FrozenLast cause r z z' w = Unit {0}
 
 -- a run by its definition, its ending, and the bytes written
 pub record RunGives (r : RunResult) (e : Ending) (w : Three (Option (List ℕ))) : Type 0 where

@@ -12,10 +12,12 @@ ghost use Rattle.m4_engine.specs.Args.{role_of, argument_of, dropped_if_any, wit
 ghost use Rattle.m4_engine.specs.Collected.{TakesByte, IsListEnd};
 ghost use Rattle.m4_engine.specs.Engine.{warning_if_dropped};
 ghost use Rattle.m4_engine.specs.Expand.{call_of};
+ghost use Rattle.m4_engine.specs.Expansion.{place_at};
 
 use crate::role::{ListEnd, Role};
 use m4_builtins::args::Arg;
 use m4_builtins::place::Place;
+use m4_input::input::Input;
 use m4_state::append::append_front;
 use m4_state::bytes::Bytes;
 use m4_state::definition::Def;
@@ -142,11 +144,14 @@ impl OpenCall {
         self.parts.definition.set(definition)
     }
 
-    /// Sets the place of the call's name.
-    pub fn set_place(&mut self, file: Bytes, line: u64)
-        ensures { self.new ≡ record self.old { place = record { file = file; line = line } } }
+    /// Sets the place of the call's name: it is the next token of this input.
+    #[inline(always)]
+    pub fn set_place(&mut self, input: &Input) -> Result<(), AllocError>
+        ensures { OnOk result (self.new ≡ record self.old { place = place_at input.now.pending }) }
     {
-        self.parts.place = Place { file, line };
+        input.put_name(&mut self.parts.place.file)?;
+        self.parts.place.line = input.line();
+        Ok(())
     }
 
     /// Drops the arguments, but keeps their memory.

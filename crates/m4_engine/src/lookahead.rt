@@ -48,9 +48,8 @@ pub enum Lookahead {
 
 impl Lookahead {
     /// Returns the lookahead for the token that this look found, and makes the next call that of a name that calls.
-    /// `more` is whether bytes may come after the text, and `room` whether the limits allow a call. The place of a call
-    /// is not set yet. Without a list, if the limits allow a call, a text without a dollar is its own expansion, and
-    /// `dnl`, with which many lines end, needs no call in memory.
+    /// `more` is whether bytes may come after the text. The place of a call is not set yet. Without a list, a text that
+    /// has no dollar is its own expansion, and `dnl`, with which many lines end, needs no call in memory.
     #[inline(always)]
     pub fn of(
         look: Look,
@@ -59,13 +58,12 @@ impl Lookahead {
         delims: &Delims<'_>,
         next: &mut OpenCall,
         more: bool,
-        room: bool,
     ) -> Result<Lookahead, AllocError>
         requires quotes { delims.now.quotes.now ≡ state.now.quotes }
         requires comments { delims.now.comments.now ≡ state.now.comments }
         requires value { scan state.now.quotes state.now.comments more text.now ≡ scan_of look text.now }
         requires lies { LookLies text.now look }
-        ensures { IfOk result (λ a. IsAhead a next.new state.now room more text.now) }
+        ensures { IfOk result (λ a. IsAhead a next.new state.now more text.now) }
     {
         let len = match look {
             Look::Name(len) => len,
@@ -87,11 +85,11 @@ impl Lookahead {
             }
             Answer::Unknown => Ok(Lookahead::Undecided),
             Answer::No => match definition {
-                Def::Text(body) if room && is_plain(body.as_slice()) => {
+                Def::Text(body) if is_plain(body.as_slice()) => {
                     next.set_definition(definition)?;
                     Ok(Lookahead::Expansion(len))
                 }
-                Def::Builtin(Builtin::Dnl) if room => Ok(Lookahead::LineSkip(len)),
+                Def::Builtin(Builtin::Dnl) => Ok(Lookahead::LineSkip(len)),
                 _ => {
                     next.renew(text, len, definition)?;
                     Ok(Lookahead::Call(len))

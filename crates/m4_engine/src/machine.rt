@@ -2,10 +2,10 @@
 //!
 //! The output and messages of a turn are buffered until they are flushed, so a turn uses no writer.
 
-ghost use Rattle.std.specs.Prelude.{◌≡◌, [], OnOk, IfOk, IfSome, IfNone};
+ghost use Rattle.std.specs.Prelude.{◌≡◌, [], OnOk, OnErr, IfOk, IfSome, IfNone};
 ghost use Rattle.m4_state.specs.Device.{Puts, count_after};
 ghost use Rattle.m4_builtins.specs.Messages.{error};
-ghost use Rattle.m4_engine.specs.Engine.{with_text, with_engine_message, with_open_call, engine_at};
+ghost use Rattle.m4_engine.specs.Engine.{KeepsOutput, with_text, with_engine_message, with_open_call, engine_at};
 ghost use Rattle.m4_engine.specs.Session.{is_saved};
 ghost use Rattle.m4_engine.specs.Wraps.{close, joined_back};
 
@@ -89,7 +89,8 @@ impl Machine {
 
     /// Appends text to the innermost argument or, outside of calls, to the output or a diversion.
     pub fn put_text(&mut self, text: &[u8]) -> Result<(), TurnFault>
-        ensures { OnOk result (self.new ≡ with_text text.now self.old) }
+        ensures engine { OnOk result (self.new ≡ with_text text.now self.old) }
+        ensures kept { OnErr result (KeepsOutput self.old self.new) }
     {
         let Some(call) = &mut self.innermost else {
             return self.put_outside(text);
@@ -100,14 +101,16 @@ impl Machine {
 
     /// Appends a message.
     pub fn add_message(&mut self, message: &[u8]) -> Result<(), AllocError>
-        ensures { OnOk result (self.new ≡ with_engine_message message.now self.old) }
+        ensures engine { OnOk result (self.new ≡ with_engine_message message.now self.old) }
+        ensures kept { OnErr result (KeepsOutput self.old self.new) }
     {
         self.messages.extend_from_slice(message)
     }
 
     /// Appends an error message.
     pub fn add_error(&mut self, place: &Place, text: &[u8]) -> Result<(), TurnFault>
-        ensures { OnOk result (self.new ≡ with_engine_message (error place.now text.now) self.old) }
+        ensures engine { OnOk result (self.new ≡ with_engine_message (error place.now text.now) self.old) }
+        ensures kept { OnErr result (KeepsOutput self.old self.new) }
     {
         let message = error_message(self.alloc, place, text)?;
         self.add_message(message.as_slice())?;
@@ -117,7 +120,8 @@ impl Machine {
     /// Opens a list: its call becomes the innermost.
     #[inline(always)]
     pub fn open_list(&mut self, call: OpenCall) -> Result<(), AllocError>
-        ensures { OnOk result (self.new ≡ with_open_call call self.old) }
+        ensures engine { OnOk result (self.new ≡ with_open_call call self.old) }
+        ensures kept { OnErr result (KeepsOutput self.old self.new) }
     {
         if let Some(outer) = std::mem::replace(&mut self.innermost, Some(call)) {
             self.outer.push(outer)?;

@@ -7,7 +7,7 @@ ghost use Rattle.m4_engine.specs.Order.{InSources};
 ghost use Rattle.m4_engine.specs.RunSources.{DescribeSources};
 ghost use Rattle.m4_engine.specs.RunPromises.{IsRun};
 ghost use Rattle.m4_engine.specs.RunSteps.{WritesInOrder, WritesToEnd, state_at_end, FreezesState};
-ghost use Rattle.m4_engine.specs.RunSteps.{UsesWriters, MarksAnyUnopened};
+ghost use Rattle.m4_engine.specs.RunSteps.{UsesLast, UsesWriters, MarksAnyUnopened};
 ghost use Rattle.m4_engine.specs.Session.{IsOpen, IsLeft, progress_of};
 ghost use Rattle.m4_engine.specs.SessionFailures.{WriteFails};
 ghost use Rattle.m4_engine.specs.SourcesRead.{ReadsSources, ReadsToEnd};
@@ -142,6 +142,10 @@ fn read_to_end<R: ByteSource, O: ByteSink, M: ByteSink, Z: ByteSink>(
         out.old out.new messages.old messages.new freeze_to.old freeze_to.new) result }
     ensures frozen { (ss : List Said) → DescribeSources R.script sources.old sources.new ss →
         FreezesState freezes (state_at_end session.old ss) result }
+    ensures last { (ss : List Said) → DescribeSources R.script sources.old sources.new ss →
+        UsesLast freezes ss session.old freeze_to.old freeze_to.new
+        (all_three O.contents M.contents Z.contents
+        out.old out.new messages.old messages.new freeze_to.old freeze_to.new) result }
     ensures reads { ReadsToEnd R.script R.failures sources.old sources.new session.old
         (both O.contents M.contents out.old out.new messages.old messages.new) result }
     ensures marks { MarksAnyUnopened sources.old sources.new session.old.any_missing session.new.any_missing result }

@@ -4,7 +4,7 @@
 ghost use Rattle.std.specs.Prelude.{◌≡◌, true, false, [], IfOk, IfErr, OnOk, Err};
 ghost use Rattle.m4_engine.specs.Writers.{all_three, both};
 ghost use Rattle.m4_engine.specs.Session.{IsOpen, answer_by, over_after, session_from, fresh_session, ReloadGives};
-ghost use Rattle.m4_engine.specs.Session.{FileGives, MissingGives, FinishGives, FreezeGives, WrapsGive};
+ghost use Rattle.m4_engine.specs.Session.{FileGives, MissingGives, FinishGives, FreezeGives, FreezeUses, WrapsGive};
 ghost use Rattle.m4_engine.specs.Session.{last_state, session_after_wraps, is_saved, status_at, progress_of};
 ghost use Rattle.m4_engine.specs.Order.{InSomeRound, InEnd, Breaks, BreaksBy, FileBreaks};
 ghost use Rattle.m4_engine.specs.SessionFailures.{ReadFails, ReloadFails, WriteFails, ThreeFail, MessageWriteFails};
@@ -280,6 +280,12 @@ impl Session {
             out.old out.new messages.old messages.new freeze_to.old freeze_to.new)
             (all_three O.contents M.contents Z.contents
             out.old out.new messages.old messages.new freeze_to.old freeze_to.new) }
+        // faults leave beginnings: a write fault comes before the writer of the frozen text is used, or after
+        // everything else was written
+        ensures last { FreezeUses self.old freeze_to.old freeze_to.new
+            (all_three O.contents M.contents Z.contents
+            out.old out.new messages.old messages.new freeze_to.old freeze_to.new)
+            result }
         ensures any_missing { self.new.any_missing ≡ self.old.any_missing }
     {
         if !self.is_open() {

@@ -30,11 +30,10 @@ pub trait TokenSink {
         delims: &Delims<'_>,
     ) -> Result<Result<usize, Lookahead>, AllocError>
         requires at { at ≤ length text.now }
-        requires token { (s : Specified) × (next : Call) × (room : Bool) × (m : Bool)
-            × IsAhead token next s room m (drop at text.now) }
-        ensures takes { IfOk result (λ r. IfOk r (λ end. (s : Specified) (next : Call) (room m : Bool) (before : Self)
+        requires token { (s : Specified) × (next : Call) × (m : Bool) × IsAhead token next s m (drop at text.now) }
+        ensures takes { IfOk result (λ r. IfOk r (λ end. (s : Specified) (next : Call) (m : Bool) (before : Self)
             → delims.now.quotes.now ≡ s.quotes → delims.now.comments.now ≡ s.comments
-            → IsAhead token next s room m (drop at text.now) → takes s m at before self.old text.now
+            → IsAhead token next s m (drop at text.now) → takes s m at before self.old text.now
             → takes s m end before self.new text.now)) }
         ensures within { IfOk result (λ r. IfOk r (λ end. (at < end) × (end ≤ length text.now))) }
         ensures left { IfOk result (λ r. IfErr r (λ left. (left ≡ token) × (self.new ≡ self.old))) };
@@ -52,12 +51,11 @@ pub fn pass_tokens<K: TokenSink>(
     state: &State,
     next: &mut OpenCall,
     more: bool,
-    room: bool,
 ) -> Result<(usize, Lookahead), AllocError>
     // exact steps: tokens of the definition `scan`, each with its effect on the sink
     ensures takes { IfOk result (λ r. K.takes state.now more r.0 sink.old sink.new text.now) }
     ensures within { IfOk result (λ r. r.0 ≤ length text.now) }
-    ensures after { IfOk result (λ r. IsAhead r.1 next.new state.now room more (drop r.0 text.now)) }
+    ensures after { IfOk result (λ r. IsAhead r.1 next.new state.now more (drop r.0 text.now)) }
 {
     let delims = Delims::of(state);
     let mut len = 0;
@@ -65,7 +63,7 @@ pub fn pass_tokens<K: TokenSink>(
         let rest = text.split_at(len).1;
         // Each look has a lookahead of its own: one for both is slower.
         if let Some(look) = plain_token(rest, &delims, more) {
-            let token = Lookahead::of(look, rest, state, &delims, next, more, room)?;
+            let token = Lookahead::of(look, rest, state, &delims, next, more)?;
             match sink.take(token, text, len, &delims)? {
                 Ok(end) => len = end,
                 Err(left) => return Ok((len, left)),
@@ -73,14 +71,14 @@ pub fn pass_tokens<K: TokenSink>(
             continue 'tokens;
         }
         if let Some(look) = delimited_token(rest, &delims, more) {
-            let token = Lookahead::of(look, rest, state, &delims, next, more, room)?;
+            let token = Lookahead::of(look, rest, state, &delims, next, more)?;
             match sink.take(token, text, len, &delims)? {
                 Ok(end) => len = end,
                 Err(left) => return Ok((len, left)),
             }
             continue 'tokens;
         }
-        let token = rare_token(rest, state, next, more, room)?;
+        let token = rare_token(rest, state, next, more)?;
         match sink.take(token, text, len, &delims)? {
             Ok(end) => len = end,
             Err(left) => return Ok((len, left)),
@@ -96,11 +94,10 @@ fn rare_token(
     state: &State,
     next: &mut OpenCall,
     more: bool,
-    room: bool,
 ) -> Result<Lookahead, AllocError>
-    ensures { IfOk result (λ a. IsAhead a next.new state.now room more text.now) }
+    ensures { IfOk result (λ a. IsAhead a next.new state.now more text.now) }
 {
     let delims = Delims::of(state);
     let look = look_by_kind(text, &delims, more);
-    Lookahead::of(look, text, state, &delims, next, more, room)
+    Lookahead::of(look, text, state, &delims, next, more)
 }

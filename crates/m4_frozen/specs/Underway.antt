@@ -38,7 +38,7 @@ pub record BeginsWithNumber (n : ℕ) (bytes rest : List ℕ) : Type 0 where
   pub spelled : bytes ≡ digits ++ rest
   pub are_digits : AreDigits digits
   pub value : value_of digits ≡ n
-  pub few : n < 10 ^ 4
+  pub few : n < 10 ^ 5
   pub apart : IsTrue (no_digit_first rest)
 
 -- the first line of the directive of a text, with the two lengths, and so many bytes after it

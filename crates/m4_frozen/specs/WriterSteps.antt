@@ -1,6 +1,6 @@
 -- The texts that the parts of the writer write, in the order of the code.
 -- Not believed: `freeze` is these texts joined (proofs/FreezeParts.antt).
-use Rattle.std.specs.Prelude.{ℕ, ℤ, pos, List, [], ◌++◌}
+use Rattle.std.specs.Prelude.{ℕ, ℤ, pos, List, [], ◌∷◌, ◌++◌, decimal, length}
 use Rattle.std.specs.List.{flat_map}
 use Rattle.std.specs.Prelude.{if◌then◌else◌}
 use Rattle.std.specs.Ordering.{int_eq}
@@ -11,7 +11,7 @@ use Rattle.m4_state.specs.Table.{Pairs}
 use Rattle.m4_frozen.specs.Directive.{Diversion}
 use Rattle.m4_frozen.specs.Freeze.{same_delimiters, definition, diversion, spelling, two_strings, last_number, header, end_line}
 use Rattle.m4_state.specs.Delimiters.{default_quotes, default_comments}
-use Rattle.m4_frozen.specs.Ascii.{letter_C, letter_Q}
+use Rattle.m4_frozen.specs.Ascii.{newline, comma, letter_C, letter_Q}
 
 -- the directive of a pair of delimiters, or nothing if it is the default
 abbrev pub delimiters_text : ℕ → Delimiters → Delimiters → List ℕ
@@ -53,3 +53,12 @@ directives_text s pairs = settings_text s ++ (names_text pairs ++ diverted_text 
 -- all of it
 abbrev pub frozen_text : State → Pairs → List ℕ
 frozen_text s pairs = header ++ (directives_text s pairs ++ end_line)
+
+-- a letter, two lengths and the first string
+abbrev pub head_text : ℕ → List ℕ → List ℕ → List ℕ
+head_text letter first second =
+    letter ∷ decimal (length first) ++ comma ∷ decimal (length second) ++ newline ∷ [] ++ first
+
+-- a text, then the second string and a newline
+abbrev pub with_second : List ℕ → List ℕ → List ℕ
+with_second text second = text ++ (second ++ newline ∷ [])

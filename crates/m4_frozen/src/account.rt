@@ -1,8 +1,8 @@
 //! Which blocks of a file are shared by the strings that are read from them.
 //!
-//! A string that shares the memory of its block keeps all of the block. So a block is shared only while those that are
-//! shared have hardly more bytes than their strings would take alone. Then the memory stays proportional to the strings
-//! that are kept, also if most of a file is something else.
+//! A string that shares the memory of its block keeps all of the block. So a block is shared only while all that is
+//! kept is hardly more than the strings would take alone. Then the memory stays proportional to the strings that are
+//! kept, also if most of a file is something else.
 
 use crate::room::BLOCK;
 use m4_state::bytes::SHORT;
@@ -10,13 +10,14 @@ use m4_state::bytes::SHORT;
 /// How many bytes a long string takes besides its own if it shares no memory, for its counts and those of the heap.
 const BESIDES: usize = 64;
 
-/// How many bytes are read at once where blocks are shared: few strings then reach into the next block.
-const SHARED_BLOCK: usize = 4 * BLOCK;
+/// How many bytes are read at once where long strings come: few of them then reach into the next block.
+pub(crate) const LONG_BLOCK: usize = 4 * BLOCK;
 
-/// The bytes of the blocks that are shared, and those that the strings read would take alone.
+/// The bytes that the long strings keep, and those that they would take alone.
 #[derive(Drop)]
 pub(crate) struct Account {
-    shared: usize,
+    /// The blocks that are shared, and the strings that share none.
+    kept: usize,
     alone: usize,
     /// How many the strings before the block would take.
     alone_before: usize,
@@ -27,7 +28,7 @@ impl Account {
     /// Returns the account of a file of which no block was read.
     pub(crate) fn new() -> Account {
         Account {
-            shared: 0,
+            kept: 0,
             alone: 0,
             alone_before: 0,
             shares: true,
@@ -36,16 +37,14 @@ impl Account {
 
     /// Returns about how many bytes the next block is to have.
     pub(crate) fn block_len(&self) -> usize {
-        if self.shared == 0 {
-            BLOCK
-        } else {
-            SHARED_BLOCK
-        }
+        if self.kept == 0 { BLOCK } else { LONG_BLOCK }
     }
 
-    /// Begins a block, and decides whether it is shared.
+    /// Begins a block, and decides whether it is shared: an eighth and a block more may be kept than the strings would
+    /// take.
     pub(crate) fn begin(&mut self) {
-        self.shares = self.shared <= self.alone.saturating_add(self.alone / 4);
+        let most = self.alone.saturating_add(self.alone / 8);
+        self.shares = self.kept <= most.saturating_add(LONG_BLOCK);
         self.alone_before = self.alone;
     }
 
@@ -65,8 +64,10 @@ impl Account {
 
     /// Ends a block of `len` bytes.
     pub(crate) fn end(&mut self, len: usize) {
-        if self.shares && self.alone != self.alone_before {
-            self.shared = self.shared.saturating_add(len);
+        let alone = self.alone.saturating_sub(self.alone_before);
+        if alone > 0 {
+            let kept = if self.shares { len } else { alone };
+            self.kept = self.kept.saturating_add(kept);
         }
     }
 }

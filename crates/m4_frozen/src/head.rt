@@ -1,4 +1,4 @@
-//! The directive of a text as most are: its first line is short, has no blanks, and no length of more than four digits.
+//! The directive of a text as most are: its first line is short, has no blanks, and no length of more than five digits.
 //!
 //! What is not of that form is no fault: it is read as any directive is.
 

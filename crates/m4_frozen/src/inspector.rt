@@ -1,16 +1,18 @@
 //! The inspector's lines: the contents of a frozen file, for people to read.
 //!
-//! A line is written part by part, so no part of the listing is buffered. Memory can run out only
-//! while the names are sorted, before the first byte is written.
+//! A short line is gathered, and any other is written part by part, so no more of the listing is buffered. Memory can
+//! run out only while the names are sorted, before the first byte is written.
 
-ghost use Rattle.std.specs.Prelude.{◌≡◌, ◌<◌, OnOk, Err};
+ghost use Rattle.std.specs.Prelude.{◌≡◌, ◌<◌, OnOk, Err, []};
 ghost use Rattle.std.specs.List.{flat_map, list_all};
 ghost use Rattle.m4_state.specs.Device.{with_bytes, one_more, count_after, HasBegun, Puts};
 ghost use Rattle.m4_frozen.specs.InspectorSteps as steps;
 ghost use Rattle.m4_frozen.specs.Listing as lines;
 
 use crate::fault::WriteFault;
+use crate::gathered::{Gathered, gather_length};
 use crate::loading::Loaded;
+use arrayvec::CapacityError;
 use itoa::Buffer;
 use m4_state::definition::Def;
 use m4_state::device::{ByteSink, DeviceFault};
@@ -91,19 +93,25 @@ fn put_names<W: ByteSink>(pairs: &[NamedStack], writer: &mut W) -> Result<(), De
     ensures puts { Puts result (W.contents writer.old) (W.contents writer.new) (steps.names_lines pairs.now) }
     ensures counted { W.failures writer.new ≡ count_after result (W.failures writer.old) }
 {
+    let mut gathered = Gathered::new();
     for pair in pairs {
-        put_stack(pair.name(), pair.stack(), writer)?;
+        put_stack(pair.name(), pair.stack(), &mut gathered, writer)?;
     }
     Ok(())
 }
 
 /// Writes the definitions of one name, the oldest first.
-fn put_stack<W: ByteSink>(name: &[u8], stack: &[Def], writer: &mut W) -> Result<(), DeviceFault>
+fn put_stack<W: ByteSink>(
+    name: &[u8],
+    stack: &[Def],
+    gathered: &mut Gathered,
+    writer: &mut W,
+) -> Result<(), DeviceFault>
     ensures puts { Puts result (W.contents writer.old) (W.contents writer.new) (steps.stack_lines name.now stack.now) }
     ensures counted { W.failures writer.new ≡ count_after result (W.failures writer.old) }
 {
     for definition in stack {
-        put_definition(name, definition, writer)?;
+        put_definition(name, definition, gathered, writer)?;
     }
     Ok(())
 }
@@ -112,6 +120,7 @@ fn put_stack<W: ByteSink>(name: &[u8], stack: &[Def], writer: &mut W) -> Result<
 fn put_definition<W: ByteSink>(
     name: &[u8],
     definition: &Def,
+    gathered: &mut Gathered,
     writer: &mut W,
 ) -> Result<(), DeviceFault>
     ensures puts { Puts result (W.contents writer.old) (W.contents writer.new)
@@ -119,7 +128,7 @@ fn put_definition<W: ByteSink>(
     ensures counted { W.failures writer.new ≡ count_after result (W.failures writer.old) }
 {
     match definition {
-        Def::Text(text) => put_counted(name, text.as_slice(), writer),
+        Def::Text(text) => put_counted(name, text.as_slice(), gathered, writer),
         Def::Builtin(builtin) => put_two_words(b"builtin ", name, builtin.name(), writer),
         Def::Placeholder(builtin) => {
             put_two_words(b"placeholder ", name, builtin.as_slice(), writer)
@@ -127,8 +136,46 @@ fn put_definition<W: ByteSink>(
     }
 }
 
-/// Writes a name and the length of its text.
-fn put_counted<W: ByteSink>(name: &[u8], text: &[u8], writer: &mut W) -> Result<(), DeviceFault>
+/// Writes a name and the length of its text. Most are gathered, and put as one piece.
+fn put_counted<W: ByteSink>(
+    name: &[u8],
+    text: &[u8],
+    gathered: &mut Gathered,
+    writer: &mut W,
+) -> Result<(), DeviceFault>
+    ensures puts { Puts result (W.contents writer.old) (W.contents writer.new)
+        (steps.counted_line name.now text.now) }
+    ensures counted { W.failures writer.new ≡ count_after result (W.failures writer.old) }
+{
+    gathered.clear();
+    match gather_counted(gathered, name, text) {
+        Ok(()) => write_all(writer, gathered.as_slice()),
+        Err(_not) => put_shown_counted(name, text, writer),
+    }
+}
+
+/// Gathers the same, if the name is shown as it is and there is room.
+fn gather_counted(gathered: &mut Gathered, name: &[u8], text: &[u8]) -> Result<(), CapacityError>
+    requires { gathered.old.items ≡ [] }
+    ensures { OnOk result (gathered.new.items ≡ steps.counted_line name.now text.now) }
+{
+    if name.is_empty() || !are_plain(name) {
+        return Err(CapacityError::new(()));
+    }
+    gathered.try_extend_from_slice(b"text ")?;
+    gathered.try_extend_from_slice(name)?;
+    gathered.try_extend_from_slice(b" ")?;
+    gather_length(gathered, text.len())?;
+    gathered.try_extend_from_slice(b"\n")
+}
+
+/// Writes the same part by part, for any name.
+#[inline(never)]
+fn put_shown_counted<W: ByteSink>(
+    name: &[u8],
+    text: &[u8],
+    writer: &mut W,
+) -> Result<(), DeviceFault>
     ensures puts { Puts result (W.contents writer.old) (W.contents writer.new)
         (steps.counted_line name.now text.now) }
     ensures counted { W.failures writer.new ≡ count_after result (W.failures writer.old) }

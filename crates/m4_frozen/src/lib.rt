@@ -11,6 +11,7 @@ mod account;
 mod begun;
 mod directive;
 pub mod fault;
+mod gathered;
 mod head;
 pub mod inspector;
 pub mod laws;

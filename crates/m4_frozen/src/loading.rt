@@ -9,13 +9,14 @@ ghost use Rattle.m4_frozen.specs.Directive as directives;
 ghost use Rattle.m4_frozen.specs.DirectiveView.{directive_of, IsJoined};
 ghost use Rattle.m4_frozen.specs.Underway as underway;
 
-use crate::account::Account;
+use crate::account::{Account, LONG_BLOCK};
 use crate::begun::{Begun, NamedText};
 use crate::directive::Directive;
 use crate::fault::{FrozenKind, ReadStop, Refusal, refused_at};
 use crate::head::text_at;
 use crate::lines::skip_lines;
 use crate::reader::{after_version, line_after, next_directive, stays};
+use crate::room::BLOCK;
 use crate::strings::{diversion_head, expect_byte, pair_head};
 use m4_state::builtin::Builtin;
 use m4_state::bytes::Bytes;
@@ -24,8 +25,9 @@ use m4_state::fault::StateFault;
 use m4_state::state::State;
 use std::alloc::{AllocError, Global};
 
-/// A text with more bytes is read as its bytes arrive, if it is not complete in a block.
-const LARGEST_UNOPENED: usize = 4096;
+/// Of a text that is not complete in a block, so many bytes at most are read again with the next block, if the text is
+/// complete there: it can then share its memory. Any other is read as its bytes arrive.
+const LARGEST_REREAD: usize = 2 * BLOCK;
 
 /// The result of loading a frozen file: a state, and the text to print before any input is read.
 pub struct Loaded {
@@ -274,7 +276,7 @@ impl Loading {
         self.open_diverted(here)
     }
 
-    /// Opens the text of a name, unless it is short. A short one is read again with the next block, which ends it.
+    /// Opens the text of a name, unless what is there of it is to be read again with the next block.
     fn open_named(&mut self, alloc: Global, here: &[u8]) -> Result<bool, StateFault>
         requires { underway.IsAtDirective self.old.inside here.now }
         ensures { underway.Opens here.now self.old self.new result }
@@ -286,7 +288,8 @@ impl Loading {
             return Ok(false);
         };
         let len = len as usize;
-        if !self.versioned || len < text.len() || len <= LARGEST_UNOPENED {
+        let rereads = text.len() <= LARGEST_REREAD && len <= LONG_BLOCK;
+        if !self.versioned || len < text.len() || rereads {
             return Ok(false);
         }
         self.begun = Some(Begun::Name(NamedText {
@@ -363,6 +366,7 @@ impl Loading {
             return Ok(None);
         }
         let after = expect_byte(b'\n', after)?;
+        text.shrink_to_fit();
         let text = Bytes::from_vec(text)?;
         self.state.push_borrowed(name.as_slice(), Def::Text(text))?;
         Ok(Some(after))

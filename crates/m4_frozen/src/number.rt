@@ -98,7 +98,7 @@ fn digit(byte: u8) -> u64
     u64::from(byte - b'0')
 }
 
-/// Returns the value of one digit to four, if that many are at the start and another byte follows, and the bytes after
+/// Returns the value of one digit to five, if that many are at the start and another byte follows, and the bytes after
 /// them.
 #[inline(always)]
 pub(crate) fn few_digits(bytes: &[u8]) -> Option<(u64, &[u8])>
@@ -130,6 +130,22 @@ pub(crate) fn few_digits(bytes: &[u8]) -> Option<(u64, &[u8])>
             Some((
                 digit(*a) * 1000 + digit(*b) * 100 + digit(*c) * 10 + digit(*d),
                 bytes.split_at(4).1,
+            ))
+        }
+        [a, b, c, d, e, f, ..]
+            if a.is_ascii_digit()
+                && b.is_ascii_digit()
+                && c.is_ascii_digit()
+                && d.is_ascii_digit()
+                && e.is_ascii_digit()
+                && !f.is_ascii_digit() => {
+            Some((
+                digit(*a) * 10_000
+                    + digit(*b) * 1000
+                    + digit(*c) * 100
+                    + digit(*d) * 10
+                    + digit(*e),
+                bytes.split_at(5).1,
             ))
         }
         _ => None,

@@ -1,4 +1,5 @@
-//! Writes the canonical text of a state, directive by directive: only a short one is gathered first.
+//! Writes the canonical text of a state, directive by directive: a short one is gathered first, and of a longer one all
+//! before its text.
 //!
 //! Memory can run out only while the names are sorted, before the first byte is written. If a write
 //! fails, the bytes written are a prefix of the text. Manual: "Frozen file format".
@@ -11,7 +12,8 @@ ghost use Rattle.m4_frozen.specs.Freeze as texts;
 ghost use Rattle.m4_frozen.specs.WriterSteps as steps;
 
 use crate::fault::WriteFault;
-use arrayvec::{ArrayVec, CapacityError};
+use crate::gathered::{Gathered, gather_length};
+use arrayvec::CapacityError;
 use itoa::Buffer;
 use m4_state::definition::Def;
 use m4_state::device::{ByteSink, DeviceFault};
@@ -25,14 +27,8 @@ const HEADER: &[u8] = b"# m4 frozen state\nV1\n";
 /// The last line.
 const END_LINE: &[u8] = b"# End of frozen state file\n";
 
-/// How many bytes of a directive are gathered, at most.
-const GATHERED: usize = 256;
-
 /// How many names are looked at together before they are written.
 const AHEAD: usize = 32;
-
-/// The room in which a short directive is gathered. It is used for one directive after another.
-type Gathered = ArrayVec<u8, GATHERED>;
 
 /// Writes the canonical text of a state. Manual: "Frozen file format".
 pub fn write_frozen<W: ByteSink>(state: &State, writer: &mut W) -> Result<(), WriteFault>
@@ -231,8 +227,7 @@ fn put_current<W: ByteSink>(current: i32, last: i32, writer: &mut W) -> Result<(
     put_diversion(current, &[], writer)
 }
 
-/// Writes a letter, two lengths and two strings. If they are short, they are gathered and put as one
-/// piece.
+/// Writes a letter, two lengths and two strings. What fits is gathered, and put as one piece.
 fn put_gathered<W: ByteSink>(
     letter: u8,
     first: &[u8],
@@ -244,13 +239,41 @@ fn put_gathered<W: ByteSink>(
     ensures counted { W.failures writer.new ≡ count_after result (W.failures writer.old) }
 {
     gathered.clear();
-    match gather(gathered, letter, first, second) {
-        Ok(()) => write_all(writer, gathered.as_slice()),
+    match gather_head(gathered, letter, first, second) {
+        Ok(()) => put_second(gathered, second, writer),
         Err(_full) => put_long(letter, first, second, writer),
     }
 }
 
-/// Writes the same in pieces.
+/// Writes what was gathered, the second string and a newline: as one piece if there is room for all, else in three.
+fn put_second<W: ByteSink>(
+    gathered: &mut Gathered,
+    second: &[u8],
+    writer: &mut W,
+) -> Result<(), DeviceFault>
+    ensures puts { Puts result (W.contents writer.old) (W.contents writer.new)
+        (steps.with_second gathered.old.items second.now) }
+    ensures counted { W.failures writer.new ≡ count_after result (W.failures writer.old) }
+{
+    match gather_second(gathered, second) {
+        Ok(()) => write_all(writer, gathered.as_slice()),
+        Err(_full) => put_apart(gathered.as_slice(), second, writer),
+    }
+}
+
+/// Writes what comes before the second string, that string and a newline, each by itself.
+#[inline(never)]
+fn put_apart<W: ByteSink>(head: &[u8], second: &[u8], writer: &mut W) -> Result<(), DeviceFault>
+    ensures puts { Puts result (W.contents writer.old) (W.contents writer.new)
+        (steps.with_second head.now second.now) }
+    ensures counted { W.failures writer.new ≡ count_after result (W.failures writer.old) }
+{
+    write_all(writer, head)?;
+    write_all(writer, second)?;
+    write_all(writer, b"\n")
+}
+
+/// Writes a letter, two lengths and two strings in pieces.
 #[inline(never)]
 fn put_long<W: ByteSink>(
     letter: u8,
@@ -280,52 +303,35 @@ fn put_long<W: ByteSink>(
     )
 }
 
-/// Gathers a letter, two lengths and two strings, if there is room for all of them.
-fn gather(
+/// Gathers a letter, two lengths and the first string, if there is room for them.
+fn gather_head(
     gathered: &mut Gathered,
     letter: u8,
     first: &[u8],
     second: &[u8],
 ) -> Result<(), CapacityError>
     requires { gathered.old.items ≡ [] }
-    ensures { OnOk result (gathered.new.items ≡ texts.two_strings letter first.now second.now) }
+    ensures { OnOk result (gathered.new.items ≡ steps.head_text letter first.now second.now) }
 {
     gathered.push(letter);
     gather_length(gathered, first.len())?;
     gathered.try_extend_from_slice(b",")?;
     gather_length(gathered, second.len())?;
     gathered.try_extend_from_slice(b"\n")?;
-    gathered.try_extend_from_slice(first)?;
+    gathered.try_extend_from_slice(first)
+}
+
+/// Gathers the second string and a newline, if there is room for both.
+fn gather_second(gathered: &mut Gathered, second: &[u8]) -> Result<(), CapacityError>
+    ensures ok { OnOk result (gathered.new.items ≡ steps.with_second gathered.old.items second.now) }
+    ensures err { OnErr result (gathered.new.items ≡ gathered.old.items) }
+{
     if second.len() >= gathered.remaining_capacity() {
         return Err(CapacityError::new(()));
     }
     gathered.try_extend_from_slice(second)?;
     gathered.push(b'\n');
     Ok(())
-}
-
-/// Gathers a length, if there is room for it. Most have a digit or two, which need no buffer of their own.
-#[inline(always)]
-fn gather_length(gathered: &mut Gathered, length: usize) -> Result<(), CapacityError>
-    ensures { OnOk result (gathered.new.items ≡ gathered.old.items ++ decimal length) }
-{
-    if length < 10 {
-        return gathered.try_extend_from_slice(&[b'0' + length as u8]);
-    }
-    if length < 100 {
-        let (tens, ones) = (length as u8 / 10, length as u8 % 10);
-        return gathered.try_extend_from_slice(&[b'0' + tens, b'0' + ones]);
-    }
-    gather_long_length(gathered, length)
-}
-
-/// Gathers a length of any number of digits, if there is room for it.
-#[inline(never)]
-fn gather_long_length(gathered: &mut Gathered, length: usize) -> Result<(), CapacityError>
-    ensures { OnOk result (gathered.new.items ≡ gathered.old.items ++ decimal length) }
-{
-    let mut digits = Buffer::new();
-    gathered.try_extend_from_slice(digits.format(length).as_bytes())
 }
 
 /// Writes `D`, a number, a length and a text.

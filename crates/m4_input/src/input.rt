@@ -145,6 +145,23 @@ impl Input {
         }
     }
 
+    /// Makes these bytes the file's name; empty in wrapped text. A short name takes the place of a short one.
+    #[doc(hidden)]
+    #[inline(always)]
+    pub fn put_name(&self, name: &mut Bytes) -> Result<(), AllocError>
+        ensures { OnOk result (name.new ≡ name_of self.now.pending) }
+    {
+        match &self.name {
+            Some(file) => {
+                if !name.set_short(file) {
+                    *name = file.share()?;
+                }
+            }
+            None => *name = Bytes::empty(),
+        }
+        Ok(())
+    }
+
     /// Returns bytes at the start in one slice, and whether others in hand come after them. If so, there are more than
     /// `looked` of them: those that are contiguous, or a copy of more, in `copy`. Returns `None` if a definition comes
     /// before them, and `AllocError` if there is no memory for the copy. Manual: "How m4 copies input to output".

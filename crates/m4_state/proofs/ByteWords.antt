@@ -1,10 +1,11 @@
 -- Names that are compared as numbers: words of eight bytes compare as the bytes do.
-use Rattle.std.proofs.Common.{◌≡◌, ℕ, zero, suc, ◌+◌, ◌*◌, ◌<◌, ◌≤◌, List, [], ◌∷◌, ◌++◌, length, get_or, take, drop, drop-cons, Ordering, Less, Equal, Greater, refl, sym, ap, subst, ◌∙◌, arith}
+use Rattle.std.proofs.Common.{◌≡◌, ℕ, zero, suc, ◌+◌, ◌*◌, ◌<◌, ◌≤◌, List, [], ◌∷◌, ◌++◌, length, get_or, take, drop, drop-cons, Ordering, Less, Equal, Greater, refl, sym, ap, subst, ◌∙◌, arith, min}
 use Rattle.std.specs.Ordering.{nat_cmp, ordering_then, MatchOrdering}
 use Rattle.std.specs.Cmp.{ranks}
 use Rattle.std.specs.Cmp.Lexicographic.{slice_cmp}
+use Rattle.std.proofs.Math.Nat.{min-le_left, min-le_right, le-min}
 use Rattle.std.proofs.Math.Seq.{take-add}
-use Rattle.std.proofs.lemmas.List.{length-drop, get_or-drop, take_all}
+use Rattle.std.proofs.lemmas.List.{length-drop, get_or-drop, take_all, take-take}
 use Rattle.m4_state.specs.ByteWords.{word, AreBytes, filled, IsRank}
 
 -- ---- how two numbers compare
@@ -152,12 +153,36 @@ module _ (xs ys : List ℕ) (a b c d : ℕ) (rx : IsRank xs a b) (ry : IsRank ys
       words_decide (filled 16 xs) (filled 16 ys) rx.bytes ry.bytes 8 b d (omega (arith, length-filled 16 xs)) (omega (arith, length-filled 16 ys)) same rx.low ry.low f
       ∙ filled_decide 16 xs ys (λ s. f (rx.low ∙ ap (λ l. word 0 (take 8 (drop 8 l))) s ∙ sym ry.low))
 
-  -- if those are equal too, long names compare as what follows
-  pub rest_decides : a ≡ c → b ≡ d → 16 ≤ length xs → 16 ≤ length ys → slice_cmp nat_cmp (drop 16 xs) (drop 16 ys) ≡ slice_cmp nat_cmp xs ys
-  rest_decides e f p q =
+  -- if those are equal too, the first bytes of long names are the same
+  pub ranked_alike : a ≡ c → b ≡ d → 16 ≤ length xs → 16 ≤ length ys → take 16 xs ≡ take 16 ys
+  ranked_alike e f p q =
       let high = (words_at (filled 16 xs) (filled 16 ys) rx.bytes ry.bytes 0 (omega (arith, length-filled 16 xs)) (omega (arith, length-filled 16 ys)) refl).alike (sym rx.high ∙ e ∙ ry.high) in
       let low = (words_at (filled 16 xs) (filled 16 ys) rx.bytes ry.bytes 8 (omega (arith, length-filled 16 xs)) (omega (arith, length-filled 16 ys)) high).alike (sym rx.low ∙ f ∙ ry.low) in
-      let same : take 16 xs ≡ take 16 ys =
       sym (filled_front 16 xs p) ∙ sym (two_words (filled 16 xs) (length-filled 16 xs)) ∙ (λ j. high j ++ low j)
-      ∙ two_words (filled 16 ys) (length-filled 16 ys) ∙ filled_front 16 ys q in
-      sym (past 16 xs ys p q same)
+      ∙ two_words (filled 16 ys) (length-filled 16 ys) ∙ filled_front 16 ys q
+
+-- ---- names that are compared word by word
+
+-- one of them has no more bytes: the lengths decide
+ends : (us vs : List ℕ) (n a b : ℕ) → a ≡ n + length us → b ≡ n + length vs → min a b ≤ n → slice_cmp nat_cmp us vs ≡ nat_cmp a b
+ends [] [] n a b p q o = let e : a ≡ b = omega arith in sym (tied e)
+ends [] (v ∷ vs) n a b p q o = let l : a < b = omega arith in sym (below l)
+ends (u ∷ us) [] n a b p q o = let g : b < a = omega arith in sym (above g)
+ends (u ∷ us) (v ∷ vs) n a b p q o = absurd (omega (arith, le-min {k = n + 1} {a = a} {b = b} (omega arith) (omega arith)))
+
+-- all the bytes of one of them are the same in the other
+pub lengths_decide : (n : ℕ) (xs ys : List ℕ) → n ≡ min (length xs) (length ys) → take n xs ≡ take n ys → nat_cmp (length xs) (length ys) ≡ slice_cmp nat_cmp xs ys
+lengths_decide n xs ys e h =
+    let p : n ≤ length xs = omega (arith, min-le_left (length xs) (length ys)) in
+    let q : n ≤ length ys = omega (arith, min-le_right (length xs) (length ys)) in
+    sym (past n xs ys p q h ∙ ends (drop n xs) (drop n ys) n (length xs) (length ys) (omega (arith, length-drop n xs)) (omega (arith, length-drop n ys)) (omega arith))
+
+-- fewer bytes are the same too
+pub fewer_alike : (m n : ℕ) (xs ys : List ℕ) → m ≤ n → take n xs ≡ take n ys → take m xs ≡ take m ys
+fewer_alike m n xs ys le h = sym (take-take m n xs le) ∙ ap (take m) h ∙ take-take m n ys le
+
+-- eight bytes more are the same
+pub word_alike : (i x y : ℕ) (xs ys : List ℕ) → AreBytes xs → AreBytes ys → i + 8 ≤ length xs → i + 8 ≤ length ys → take i xs ≡ take i ys
+    → x ≡ word 0 (take 8 (drop i xs)) → y ≡ word 0 (take 8 (drop i ys)) → x ≡ y → take (i + 8) xs ≡ take (i + 8) ys
+word_alike i x y xs ys bx by p q h ex ey e =
+    take-add i 8 xs ∙ (λ j. h j ++ (words_at xs ys bx by i p q h).alike (sym ex ∙ e ∙ ey) j) ∙ sym (take-add i 8 ys)

@@ -24,3 +24,4 @@ pub mod standard;
 pub mod state;
 mod table;
 pub mod transfer;
+pub mod words;

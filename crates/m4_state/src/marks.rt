@@ -1,7 +1,7 @@
 //! Marks of the names in a table. Most words of a text are no names in it, and most of these are known by a mark that
-//! is not there.
+//! is not there. A mark says where its name is, so that most names are found without a hash.
 
-ghost use Rattle.std.specs.Prelude.{◌≡◌, ◌<◌, List, ℕ, IfOk, true};
+ghost use Rattle.std.specs.Prelude.{◌≡◌, ◌<◌, List, ℕ, nat_lt, true};
 ghost use Rattle.m4_state.specs.Marks.{place_of, is_marked};
 
 use std::alloc::{AllocError, Global};
@@ -10,16 +10,20 @@ use std::marker::Model;
 /// How many marks there are.
 const MARKS: usize = 4096;
 
-/// A mark at the place of each name that was added, and maybe of others.
+/// The greatest index that a mark tells. A name after it has the mark of this one, and is found by its hash.
+const LAST_TOLD: u16 = u16::MAX - 1;
+
+/// A mark at the place of each name that was added, and maybe of others: one more than the index of the last name that
+/// was added there, or 0 if none was.
 #[derive(Drop)]
 pub struct Marks {
-    marks: Vec<bool>,
+    marks: Vec<u16>,
 }
 
 impl Model for Marks {
-    ghost use Rattle.std.specs.Prelude.{◌≡◌, List, Bool, length};
+    ghost use Rattle.std.specs.Prelude.{◌≡◌, List, ℕ, length};
 
-    ghost Value = { List Bool };
+    ghost Value = { List ℕ };
 
     ghost view = { λ m. m.marks.items };
 
@@ -46,24 +50,25 @@ impl Marks {
     /// Returns no marks.
     pub fn new(alloc: Global) -> Result<Marks, AllocError> {
         Ok(Marks {
-            marks: Vec::from_elem(alloc, false, MARKS)?,
+            marks: Vec::from_elem(alloc, 0u16, MARKS)?,
         })
     }
 
-    /// Returns whether a name may have been added; `false` if it was not.
+    /// Returns 0 if a name was not added. Otherwise it returns one more than the index that the name may have.
     #[inline(always)]
-    pub fn may_have(&self, name: &[u8]) -> bool
-        ensures { result ≡ is_marked self.now name.now }
+    pub fn hint(&self, name: &[u8]) -> usize
+        ensures { nat_lt 0 result ≡ is_marked self.now name.now }
     {
-        self.marks[place_of(name)]
+        usize::from(self.marks[place_of(name)])
     }
 
-    /// Adds a name.
-    pub fn add(&mut self, name: &[u8])
+    /// Adds a name, which has this index.
+    #[inline(always)]
+    pub fn add(&mut self, name: &[u8], index: usize)
         ensures added { is_marked self.new name.now ≡ true }
         ensures stay { (other : List ℕ) → is_marked self.old other ≡ true → is_marked self.new other ≡ true }
     {
         let place = place_of(name);
-        self.marks[place] = true;
+        self.marks[place] = u16::try_from(index).unwrap_or(LAST_TOLD).min(LAST_TOLD) + 1;
     }
 }

@@ -3,13 +3,14 @@
 //! The first bytes of a name are held as two numbers beside it. Where they differ, they decide, and a
 //! comparison follows no pointer to the names.
 
-ghost use Rattle.std.specs.Prelude.{◌≡◌, ◌+◌, ◌≤◌, length, take, drop};
-ghost use Rattle.m4_state.specs.ByteWords.{word, filled, AreBytes};
+ghost use Rattle.std.specs.Prelude.{◌≡◌, ◌≤◌, length, take};
+ghost use Rattle.m4_state.specs.ByteWords.{filled};
 ghost use Rattle.m4_state.specs.Table.{byte_order};
 
 use crate::bytes::Bytes;
 use crate::definition::Def;
 use crate::stack::Stack;
+use crate::words::{WORD, word_at};
 use std::cmp::Ordering;
 use std::marker::Model;
 
@@ -82,12 +83,34 @@ pub(crate) fn order_of(a: &NamedStack, b: &NamedStack) -> Ordering
     if a.second != b.second {
         return a.second.cmp(&b.second);
     }
-    let (a, b) = (a.name(), b.name());
-    if a.len() >= RANKED && b.len() >= RANKED {
-        // The numbers are equal, so the first bytes are.
-        return a.split_at(RANKED).1.cmp(b.split_at(RANKED).1);
+    order_of_ranked(a.name(), b.name())
+}
+
+/// Returns the byte order of two names whose first bytes are the same, if they have as many. Eight bytes are compared
+/// at once. The last eight may be so twice.
+#[inline(never)]
+fn order_of_ranked(a: &[u8], b: &[u8]) -> Ordering
+    requires same { 16 ≤ length a.now → 16 ≤ length b.now → take 16 a.now ≡ take 16 b.now }
+    ensures { result ≡ byte_order a.now b.now }
+{
+    let both = a.len().min(b.len());
+    if both < RANKED {
+        return a.cmp(b);
     }
-    a.cmp(b)
+    let last = both - WORD;
+    let mut at = RANKED;
+    while at < last {
+        let (x, y) = (word_at(a, at), word_at(b, at));
+        if x != y {
+            return x.cmp(&y);
+        }
+        at += WORD;
+    }
+    let (x, y) = (word_at(a, last), word_at(b, last));
+    if x != y {
+        return x.cmp(&y);
+    }
+    a.len().cmp(&b.len())
 }
 
 /// Returns the first bytes of a name, and zeros where it has none.
@@ -98,22 +121,4 @@ fn filled(name: &[u8]) -> [u8; RANKED]
     let mut bytes = [0; RANKED];
     bytes[..len].copy_from_slice(&name[..len]);
     bytes
-}
-
-/// Returns eight bytes as a number, the first one the greatest.
-fn word_at(bytes: &[u8], i: usize) -> u64
-    requires { i + 8 ≤ length bytes.now }
-    ensures value { result ≡ word 0 (take 8 (drop i bytes.now)) }
-    ensures bytes { AreBytes bytes.now }
-{
-    u64::from_be_bytes([
-        bytes[i],
-        bytes[i + 1],
-        bytes[i + 2],
-        bytes[i + 3],
-        bytes[i + 4],
-        bytes[i + 5],
-        bytes[i + 6],
-        bytes[i + 7],
-    ])
 }

@@ -127,7 +127,7 @@ impl State {
         // exact steps: the record's definitions of the name
         ensures { result.now ≡ stack_of self.now name.now }
     {
-        self.table.stack(name)
+        self.table.stack(self.table.hint(name), name)
     }
 
     /// Returns the top definition of a name, which is a valid one. Most words of a text have no mark in the table.
@@ -137,19 +137,20 @@ impl State {
         ensures top { option_copied result ≡ top_of self.now name.now }
         ensures valid { IfSome (option_copied result) IsDefinition }
     {
-        if !self.table.may_have(name) {
+        let hint = self.table.hint(name);
+        if hint == 0 {
             return None;
         }
-        self.top_in_table(name)
+        self.top_in_table(hint, name)
     }
 
     /// Returns the top definition of a name, by a look into the table.
     #[inline(never)]
-    fn top_in_table(&self, name: &[u8]) -> Option<&Def>
+    fn top_in_table(&self, hint: usize, name: &[u8]) -> Option<&Def>
         ensures top { option_copied result ≡ top_of self.now name.now }
         ensures valid { IfSome (option_copied result) IsDefinition }
     {
-        let definitions = self.table.stack(name);
+        let definitions = self.table.stack(hint, name);
         definitions.last()
     }
 

@@ -11,6 +11,8 @@ mod ModeLines
 mod OpenedFiles
 mod Places
 mod RanFiles
+mod ShownWriters
+mod ClosedCounts
 mod MarkedFiles
 mod ReadFaults
 mod RefusalLemmas

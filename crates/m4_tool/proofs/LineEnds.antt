@@ -17,7 +17,7 @@ use Rattle.m4_engine.specs.File.{Source, after_sources, cannot_open}
 use Rattle.m4_engine.specs.Start.{begun, start_of}
 use Rattle.m4_engine.specs.Wraps.{after_wraps}
 use Rattle.m4_engine.specs.Run.{RunResult, status_of, limits_of, result_by, run, saved_after}
-use Rattle.m4_engine.specs.Writers.{Contents, writers}
+use Rattle.m4_engine.specs.Writers.{Contents, HasWritten, writers}
 use Rattle.m4_engine.specs.WholeRun.{GivesBy, RefusedBy, WroteAll, WrotePrefix}
 use Rattle.m4_tool.specs.declared.followed.Failure.{Failure}
 use Rattle.m4_tool.specs.declared.followed.Failure.TheVariants as failures
@@ -118,18 +118,18 @@ not_done c r d e f = elim f.at_end [
   | inr k ↦ k
 ]
 
-files_all : (c : Cause) (name : List ℕ) (r : RunResult) (old new : Option Files) → r.reason ≡ Ends c → FreezesAtEnd r → failure_by c ≡ None → RanFiles c name (unwrap_or r.frozen []) old new → new ≡ option_map (made_file name (unwrap_or r.frozen [])) old
-files_all causes.Done name r old new e f n h = h
-files_all causes.Write name r old new e f n h = absurd cc
-files_all causes.Read name r old new e f n h = absurd cc
-files_all causes.OutOfMemory name r old new e f n h = absurd cc
-files_all (causes.Exited code) name r old new e f n h = kept_made name r.frozen old new (not_done (causes.Exited code) r refl e f) h
-files_all causes.EndInString name r old new e f n h = kept_made name r.frozen old new (not_done causes.EndInString r refl e f) h
-files_all causes.EndInComment name r old new e f n h = kept_made name r.frozen old new (not_done causes.EndInComment r refl e f) h
-files_all causes.EndInArguments name r old new e f n h = kept_made name r.frozen old new (not_done causes.EndInArguments r refl e f) h
-files_all causes.ExpansionLimit name r old new e f n h = kept_made name r.frozen old new (not_done causes.ExpansionLimit r refl e f) h
-files_all causes.NestingLimit name r old new e f n h = kept_made name r.frozen old new (not_done causes.NestingLimit r refl e f) h
-files_all (causes.Frozen fault) name r old new e f n h = kept_made name r.frozen old new (not_done (causes.Frozen fault) r refl e f) h
+files_all : (c : Cause) (name : List ℕ) (r : RunResult) (w : Contents) (old new : Option Files) → r.reason ≡ Ends c → FreezesAtEnd r → failure_by c ≡ None → RanFiles c name r w old new → new ≡ option_map (made_file name (unwrap_or r.frozen [])) old
+files_all causes.Done name r w old new e f n h = h
+files_all causes.Write name r w old new e f n h = absurd cc
+files_all causes.Read name r w old new e f n h = absurd cc
+files_all causes.OutOfMemory name r w old new e f n h = absurd cc
+files_all (causes.Exited code) name r w old new e f n h = kept_made name r.frozen old new (not_done (causes.Exited code) r refl e f) h
+files_all causes.EndInString name r w old new e f n h = kept_made name r.frozen old new (not_done causes.EndInString r refl e f) h
+files_all causes.EndInComment name r w old new e f n h = kept_made name r.frozen old new (not_done causes.EndInComment r refl e f) h
+files_all causes.EndInArguments name r w old new e f n h = kept_made name r.frozen old new (not_done causes.EndInArguments r refl e f) h
+files_all causes.ExpansionLimit name r w old new e f n h = kept_made name r.frozen old new (not_done causes.ExpansionLimit r refl e f) h
+files_all causes.NestingLimit name r w old new e f n h = kept_made name r.frozen old new (not_done causes.NestingLimit r refl e f) h
+files_all (causes.Frozen fault) name r w old new e f n h = kept_made name r.frozen old new (not_done (causes.Frozen fault) r refl e f) h
 
 unfailed : (c : Cause) (b : Bool) → failure_of c b ≡ None → failure_by c ≡ None
 unfailed causes.Read true n = absurd cc
@@ -165,29 +165,39 @@ prefixes causes.OutOfMemory r e w g = of_prefix r e w g
 prefixes (causes.Frozen f) r e w g = of_refused f.kind r e w g
 prefixes c r e w g = of_all r e w g
 
-made_prefix : (name text : List ℕ) (old new : Option Files) → new ≡ option_map (made_file name text) old → (new ≡ old) ⊎ HasPrefix name text old new
-made_prefix name [] old new e = inl (e ∙ none_made name old)
-made_prefix name (t ∷ ts) old new e = inr (record { front = t ∷ ts; rest = []; parts = sym (append-nil (t ∷ ts)); files = e })
+made_prefix : {P : Type 0} → (name text : List ℕ) (old new : Option Files) → P → new ≡ option_map (made_file name text) old → (new ≡ old) ⊎ (HasPrefix name text old new × P)
+made_prefix name [] old new p e = inl (e ∙ none_made name old)
+made_prefix name (t ∷ ts) old new p e = inr (record { front = t ∷ ts; rest = []; parts = sym (append-nil (t ∷ ts)); files = e }, p)
 
-some_files : (c : Cause) (name text : List ℕ) (old new : Option Files) → RanFiles c name text old new → (new ≡ old) ⊎ HasPrefix name text old new
-some_files causes.Done name text old new h = made_prefix name text old new h
-some_files causes.Write name text old new h = h
-some_files c name text old new h = inl h
+-- the files after a write fault: of a run that read everything, a last flush failed
+some_files : (c : Cause) (name : List ℕ) (r : RunResult) (e : Ending) (w : Contents) (old new : Option Files)
+    → GivesBy c r e w → RanFiles c name r w old new
+    → (new ≡ old) ⊎ (HasPrefix name (unwrap_or r.frozen []) old new × HasWritten r.output r.messages w)
+some_files causes.Done name r e w old new g h = made_prefix name (unwrap_or r.frozen []) old new (record { output = g.output; messages = g.messages }) h
+some_files causes.Write name r e w old new g h = h
+some_files c name r e w old new g h = inl h
 
 -- the files after a failure that is no write fault
-kept_files : (c : Cause) (b : Bool) (f : Failure) (name text : List ℕ) (old new : Option Files) → failure_of c b ≡ Some f → f ≢ failures.Write → RanFiles c name text old new → new ≡ old
-kept_files causes.Done true f name text old new e d h = absurd cc
-kept_files causes.Done false f name text old new e d h = absurd (d (ap (λ (o : Option Failure). unwrap_or o f) (sym e)))
-kept_files causes.Write true f name text old new e d h = absurd (d (ap (λ (o : Option Failure). unwrap_or o f) (sym e)))
-kept_files causes.Write false f name text old new e d h = absurd (d (ap (λ (o : Option Failure). unwrap_or o f) (sym e)))
-kept_files c b f name text old new e d h = h
+kept_files : (c : Cause) (b : Bool) (f : Failure) (name : List ℕ) (r : RunResult) (w : Contents) (old new : Option Files)
+    → failure_of c b ≡ Some f → f ≢ failures.Write → RanFiles c name r w old new → new ≡ old
+kept_files causes.Done true f name r w old new e d h = absurd cc
+kept_files causes.Done false f name r w old new e d h = absurd (d (ap (λ (o : Option Failure). unwrap_or o f) (sym e)))
+kept_files causes.Write true f name r w old new e d h = absurd (d (ap (λ (o : Option Failure). unwrap_or o f) (sym e)))
+kept_files causes.Write false f name r w old new e d h = absurd (d (ap (λ (o : Option Failure). unwrap_or o f) (sym e)))
+kept_files c b f name r w old new e d h = h
 
-files_fail : (f : Failure) (c : Cause) (b : Bool) (name text : List ℕ) (old new : Option Files) → failure_of c b ≡ Some f → RanFiles c name text old new → FilesBy f name text old new
-files_fail failures.Write c b name text old new e h = some_files c name text old new h
-files_fail failures.Read c b name text old new e h = kept_files c b failures.Read name text old new e (λ k. cc) h
-files_fail failures.Report c b name text old new e h = kept_files c b failures.Report name text old new e (λ k. cc) h
-files_fail failures.Load c b name text old new e h = kept_files c b failures.Load name text old new e (λ k. cc) h
-files_fail failures.OutOfMemory c b name text old new e h = kept_files c b failures.OutOfMemory name text old new e (λ k. cc) h
+-- the files by what failed
+abbrev FilesIn : Failure → List ℕ → RunResult → Contents → Option Files → Option Files → Type 0
+FilesIn failures.Write name r w old new = (new ≡ old) ⊎ (HasPrefix name (unwrap_or r.frozen []) old new × HasWritten r.output r.messages w)
+FilesIn failure name r w old new = new ≡ old
+
+files_fail : (f : Failure) (c : Cause) (b : Bool) (name : List ℕ) (r : RunResult) (e : Ending) (w : Contents) (old new : Option Files)
+    → failure_of c b ≡ Some f → GivesBy c r e w → RanFiles c name r w old new → FilesIn f name r w old new
+files_fail failures.Write c b name r e w old new n g h = some_files c name r e w old new g h
+files_fail failures.Read c b name r e w old new n g h = kept_files c b failures.Read name r w old new n (λ k. cc) h
+files_fail failures.Report c b name r e w old new n g h = kept_files c b failures.Report name r w old new n (λ k. cc) h
+files_fail failures.Load c b name r e w old new n g h = kept_files c b failures.Load name r w old new n (λ k. cc) h
+files_fail failures.OutOfMemory c b name r e w old new n g h = kept_files c b failures.OutOfMemory name r w old new n (λ k. cc) h
 
 counted_some : (c : Cause) (f g : ℕ) → CountedBy c f g → Grew f g
 counted_some causes.Write f g (inl h) = grew_none f g h
@@ -201,8 +211,15 @@ status_fail c b f s n = ap (λ (o : Option Failure). status_after o s) n
 abbrev pub seen_from : Option (List ℕ) → Option (List ℕ) → Option (List ℕ) → Option (List ℕ) → ℕ → ℕ → Option Files → Option Files → Seen
 seen_from o o' m m' f f' w w' = record { out_old = o; out_new = o'; messages_old = m; messages_new = m'; failures_old = f; failures_new = f'; files_old = w; files_new = w' }
 
+-- the same of the line
+files_seen : (f : Failure) (name file : List ℕ) (r : RunResult) (o0 o2 m0 m1 m2 : Option (List ℕ)) (f0 f2 : ℕ) (w0 w2 : Option Files)
+    → FilesIn f name r (writers o0 o2 m0 m1) w0 w2 → FilesBy f name (result_of_run file r) m1 (seen_from o0 o2 m0 m2 f0 f2 w0 w2)
+files_seen failures.Write name file r o0 o2 m0 m1 m2 f0 f2 w0 w2 (inl e) = inl e
+files_seen failures.Write name file r o0 o2 m0 m1 m2 f0 f2 w0 w2 (inr p) = inr (record { output = p.1.output; messages = p.1.messages; file = p.0 })
+files_seen f name file r o0 o2 m0 m1 m2 f0 f2 w0 w2 h = h
+
 as_defined : (name file : List ℕ) (r : RunResult) (c : Cause) (b : Bool) (s : ℕ) (x : Bool) (o0 o1 o2 m0 m1 m2 : Option (List ℕ)) (f0 f1 f2 : ℕ) (w0 w1 w2 : Option Files) (status : ℕ)
-    → FreezesAtEnd r → failure_of c b ≡ None → WroteAll r (record { status = s; cause = c; wrapped = x }) (writers o0 o1 m0 m1) → CountedBy c f0 f1 → RanFiles c name (unwrap_or r.frozen []) w0 w1
+    → FreezesAtEnd r → failure_of c b ≡ None → WroteAll r (record { status = s; cause = c; wrapped = x }) (writers o0 o1 m0 m1) → CountedBy c f0 f1 → RanFiles c name r (writers o0 o1 m0 m1) w0 w1
     → status ≡ status_after (failure_of c b) s → o2 ≡ o1 → Reports (added_lines file c b) m1 m2 f1 f2 → w2 ≡ w1
     → AsDefined name (result_of_run file r) status (seen_from o0 o2 m0 m2 f0 f2 w0 w2)
 as_defined name file r c b s x o0 o1 o2 m0 m1 m2 f0 f1 f2 w0 w1 w2 status z n g k h l o p q =
@@ -213,7 +230,7 @@ as_defined name file r c b s x o0 o1 o2 m0 m1 m2 f0 f1 f2 w0 w1 w2 status z n g 
       is_status = l ∙ status_all c b s n ∙ g.status;
       output = o ∙ g.output;
       messages = subst (λ (f : ℕ). Reports (refusals_by file r.reason) (with_bytes m0 r.messages) m2 f f2) (counted_all c b f0 f1 n k) p2;
-      files = q ∙ files_all c name r w0 w1 g.reason z (unfailed c b n) h;
+      files = q ∙ files_all c name r (writers o0 o1 m0 m1) w0 w1 g.reason z (unfailed c b n) h;
     }
 
 refused_as : (file : List ℕ) (f : FrozenFault) (k : FrozenKind) (r : RunResult) (s : ℕ) (x : Bool) (w : Contents)
@@ -228,22 +245,25 @@ refuses_as file (causes.Frozen f) r s x w g = refused_as file f f.kind r s x w r
 refuses_as file c r s x w g = tt
 
 broke_off : (name file : List ℕ) (r : RunResult) (c : Cause) (b : Bool) (f : Failure) (s : ℕ) (x m : Bool) (o0 o1 o2 m0 m1 m2 : Option (List ℕ)) (f0 f1 f2 : ℕ) (w0 w1 w2 : Option Files) (status : ℕ)
-    → failure_of c b ≡ Some f → RefusesAs file c (result_of_run file r) → Prefixes r (writers o0 o1 m0 m1) → CountedBy c f0 f1 → s ≡ status_of (Ends c) m → RanFiles c name (unwrap_or r.frozen []) w0 w1
+    → failure_of c b ≡ Some f → RefusesAs file c (result_of_run file r) → GivesBy c r (record { status = s; cause = c; wrapped = x }) (writers o0 o1 m0 m1) → CountedBy c f0 f1 → s ≡ status_of (Ends c) m → RanFiles c name r (writers o0 o1 m0 m1) w0 w1
     → status ≡ status_after (failure_of c b) s → o2 ≡ o1 → Reports (added_lines file c b) m1 m2 f1 f2 → w2 ≡ w1
     → BrokeOff name file (result_of_run file r) status f (seen_from o0 o2 m0 m2 f0 f2 w0 w2)
 broke_off name file r c b f s x m o0 o1 o2 m0 m1 m2 f0 f1 f2 w0 w1 w2 status n d g k t h l o p q = record {
   is_status = l ∙ status_fail c b f s n;
-  output = subst (λ (v : Option (List ℕ)). HasBegun o0 v r.output) (sym o) g.output;
+  output = subst (λ (v : Option (List ℕ)). HasBegun o0 v r.output) (sym o) (prefixes c r (record { status = s; cause = c; wrapped = x }) (writers o0 o1 m0 m1) g).output;
   cause = c;
   flushed = b;
   failed = n;
   refused = d;
   begun = m1;
-  messages = g.messages;
+  messages = (prefixes c r (record { status = s; cause = c; wrapped = x }) (writers o0 o1 m0 m1) g).messages;
   count = f1;
   counted = counted_some c f0 f1 k;
   reports = p;
-  files = files_fail f c b name (unwrap_or r.frozen []) w0 w2 n (subst (λ (v : Option Files). RanFiles c name (unwrap_or r.frozen []) w0 v) (sym q) h);
+  files = files_seen f name file r o0 o2 m0 m1 m2 f0 f2 w0 w2
+      (subst (λ (v : Option Files). FilesIn f name r (writers o0 o2 m0 m1) w0 v) (sym q)
+      (subst (λ (v : Option (List ℕ)). FilesIn f name r (writers o0 v m0 m1) w0 w1) (sym o)
+      (files_fail f c b name r (record { status = s; cause = c; wrapped = x }) (writers o0 o1 m0 m1) w0 w1 n g h)));
 }
 
 -- a flush and the end of a run don't fail as a report does
@@ -284,7 +304,7 @@ no_report c true e = no_report_by c e
 no_report c false e = or_write (failure_by c) (no_report_by c) e
 
 ends_by : (failure : Option Failure) (name file : List ℕ) (r : RunResult) (c : Cause) (b : Bool) (s : ℕ) (x m : Bool) (o0 o1 o2 m0 m1 m2 : Option (List ℕ)) (f0 f1 f2 : ℕ) (w0 w1 w2 : Option Files) (status : ℕ)
-    → FreezesAtEnd r → failure ≡ failure_of c b → GivesBy c r (record { status = s; cause = c; wrapped = x }) (writers o0 o1 m0 m1) → CountedBy c f0 f1 → s ≡ status_of (Ends c) m → RanFiles c name (unwrap_or r.frozen []) w0 w1
+    → FreezesAtEnd r → failure ≡ failure_of c b → GivesBy c r (record { status = s; cause = c; wrapped = x }) (writers o0 o1 m0 m1) → CountedBy c f0 f1 → s ≡ status_of (Ends c) m → RanFiles c name r (writers o0 o1 m0 m1) w0 w1
     → status ≡ status_after (failure_of c b) s → o2 ≡ o1 → Reports (added_lines file c b) m1 m2 f1 f2 → w2 ≡ w1
     → EndsBy failure name file (result_of_run file r) status (seen_from o0 o2 m0 m2 f0 f2 w0 w2)
 ends_by None name file r c b s x m o0 o1 o2 m0 m1 m2 f0 f1 f2 w0 w1 w2 status z n g k t h l o p q =
@@ -292,13 +312,13 @@ ends_by None name file r c b s x m o0 o1 o2 m0 m1 m2 f0 f1 f2 w0 w1 w2 status z 
 ends_by (Some failures.Report) name file r c b s x m o0 o1 o2 m0 m1 m2 f0 f1 f2 w0 w1 w2 status z n g k t h l o p q =
     absurd (no_report c b (sym n))
 ends_by (Some failures.Read) name file r c b s x m o0 o1 o2 m0 m1 m2 f0 f1 f2 w0 w1 w2 status z n g k t h l o p q =
-    broke_off name file r c b failures.Read s x m o0 o1 o2 m0 m1 m2 f0 f1 f2 w0 w1 w2 status (sym n) (refuses_as file c r s x (writers o0 o1 m0 m1) g) (prefixes c r (record { status = s; cause = c; wrapped = x }) (writers o0 o1 m0 m1) g) k t h l o p q
+    broke_off name file r c b failures.Read s x m o0 o1 o2 m0 m1 m2 f0 f1 f2 w0 w1 w2 status (sym n) (refuses_as file c r s x (writers o0 o1 m0 m1) g) g k t h l o p q
 ends_by (Some failures.Write) name file r c b s x m o0 o1 o2 m0 m1 m2 f0 f1 f2 w0 w1 w2 status z n g k t h l o p q =
-    broke_off name file r c b failures.Write s x m o0 o1 o2 m0 m1 m2 f0 f1 f2 w0 w1 w2 status (sym n) (refuses_as file c r s x (writers o0 o1 m0 m1) g) (prefixes c r (record { status = s; cause = c; wrapped = x }) (writers o0 o1 m0 m1) g) k t h l o p q
+    broke_off name file r c b failures.Write s x m o0 o1 o2 m0 m1 m2 f0 f1 f2 w0 w1 w2 status (sym n) (refuses_as file c r s x (writers o0 o1 m0 m1) g) g k t h l o p q
 ends_by (Some failures.OutOfMemory) name file r c b s x m o0 o1 o2 m0 m1 m2 f0 f1 f2 w0 w1 w2 status z n g k t h l o p q =
-    broke_off name file r c b failures.OutOfMemory s x m o0 o1 o2 m0 m1 m2 f0 f1 f2 w0 w1 w2 status (sym n) (refuses_as file c r s x (writers o0 o1 m0 m1) g) (prefixes c r (record { status = s; cause = c; wrapped = x }) (writers o0 o1 m0 m1) g) k t h l o p q
+    broke_off name file r c b failures.OutOfMemory s x m o0 o1 o2 m0 m1 m2 f0 f1 f2 w0 w1 w2 status (sym n) (refuses_as file c r s x (writers o0 o1 m0 m1) g) g k t h l o p q
 ends_by (Some failures.Load) name file r c b s x m o0 o1 o2 m0 m1 m2 f0 f1 f2 w0 w1 w2 status z n g k t h l o p q =
-    broke_off name file r c b failures.Load s x m o0 o1 o2 m0 m1 m2 f0 f1 f2 w0 w1 w2 status (sym n) (refuses_as file c r s x (writers o0 o1 m0 m1) g) (prefixes c r (record { status = s; cause = c; wrapped = x }) (writers o0 o1 m0 m1) g) k t h l o p q
+    broke_off name file r c b failures.Load s x m o0 o1 o2 m0 m1 m2 f0 f1 f2 w0 w1 w2 status (sym n) (refuses_as file c r s x (writers o0 o1 m0 m1) g) g k t h l o p q
 
 -- the same if a line for a refused file could not be written
 after_report : (failure : Option Failure) (is_reported : Bool) (name file : List ℕ) (r : LineResult) (status : ℕ) (w : Seen) → EndsBy failure name file r status w

@@ -9,8 +9,8 @@ use Rattle.m4_engine.specs.declared.ending.Cause.TheVariants as causes
 use Rattle.m4_engine.specs.declared.ending.Ending.{Ending}
 use Rattle.m4_engine.specs.Expansion.{Ends}
 use Rattle.m4_engine.specs.Run.{RunResult, status_of}
-use Rattle.m4_engine.specs.Writers.{Both, ByCause, NoneOfThree, OneOfThree, Three, Contents, writers}
-use Rattle.m4_engine.specs.WholeRun.{FrozenBegan, FrozenBy, HasFrozen, RunGives}
+use Rattle.m4_engine.specs.Writers.{Both, ByCause, HasWritten, NoneOfThree, OneOfThree, Three, Contents, writers}
+use Rattle.m4_engine.specs.WholeRun.{FrozenBegan, FrozenBy, FrozenLast, HasFrozen, RunGives}
 use Rattle.m4_tool.specs.World.{Files, with_file, made_file}
 use Rattle.m4_tool.specs.Late.{written, after_writing, is_tried}
 use Rattle.m4_tool.specs.LineEnd.{HasPrefix}
@@ -61,24 +61,40 @@ prefix_made name text (Some f) now true s h = inr (record {
   files = s ∙ ap (λ (o : Option (List ℕ)). Some (with_file name (unwrap_or o []) f)) h.1.holds;
 })
 
+-- where it is a value of another type that was not used, the files are as they were
+pub untouched : {Z : Type 0} → (files : Z → Option Files) (cause : Cause) (r : RunResult) (z z' : Z) (w : Three (Option (List ℕ)))
+    (before now : Option Files) → files z ≡ before → files z' ≡ now → FrozenLast cause r z z' w → FrozenLast cause r before now w
+untouched files causes.Write r z z' w before now b n (inl h) = inl (sym n ∙ ap files h ∙ b)
+untouched files causes.Write r z z' w before now b n (inr h) = inr h
+untouched files cause r z z' w before now b n h = tt
+
 module _ (r : RunResult) (name : List ℕ) (before now : Option Files) (created : Bool) (failures failures0 : ℕ) (made0 : Option (List ℕ)) (two : Contents) (two_failures : Both ℕ)
     (m : made0 ≡ written false name before) (z : failures0 ≡ 0) (s : now ≡ after_writing created name (written created name now) before) (t : is_tried created failures (written created name now) ≡ true) where
   done_by : (frozen : Option (List ℕ)) → HasFrozen frozen (record { two = two; frozen_old = made0; frozen_new = written created name now }) → failures ≡ failures0 → now ≡ option_map (made_file name (unwrap_or frozen [])) before
   done_by None h e = made_so name [] before now created failures s t (e ∙ z) (h ∙ m ∙ with_bytes-nil (written false name before))
   done_by (Some text) h e = made_so name text before now created failures s t (e ∙ z) (h ∙ ap (λ (o : Option (List ℕ)). with_bytes o text) m)
 
-  write_by : (made0 : Option (List ℕ)) → made0 ≡ written false name before → (written created name now ≡ made0) ⊎ FrozenBegan r (record { two = two; frozen_old = made0; frozen_new = written created name now }) → (now ≡ before) ⊎ HasPrefix name (unwrap_or r.frozen []) before now
-  write_by old k (inl e) = prefix_made name (unwrap_or r.frozen []) before now created s (subst (λ (o : Option (List ℕ)). HasBegun (written false name before) o (unwrap_or r.frozen [])) (sym (e ∙ k)) (nothing_put (written false name before) (unwrap_or r.frozen [])))
-  write_by old k (inr b) =
-      let p = subst (λ (o : Option (List ℕ)). HasBegun o (written created name now) b.text) k b.begun in
-      prefix_made name (unwrap_or r.frozen []) before now created s (subst (λ (o : Option (List ℕ)). HasBegun (written false name before) (written created name now) (unwrap_or o [])) (sym b.is) p)
+  with_all : (now ≡ before) ⊎ HasPrefix name (unwrap_or r.frozen []) before now → HasWritten r.output r.messages two
+      → (now ≡ before) ⊎ (HasPrefix name (unwrap_or r.frozen []) before now × HasWritten r.output r.messages two)
+  with_all (inl e) a = inl e
+  with_all (inr p) a = inr (p, a)
+
+  write_by : (now ≡ before) ⊎ FrozenBegan r (record { two = two; frozen_old = made0; frozen_new = written created name now })
+      → (now ≡ before) ⊎ (HasPrefix name (unwrap_or r.frozen []) before now × HasWritten r.output r.messages two)
+  write_by (inl e) = inl e
+  write_by (inr b) =
+      let p = subst (λ (o : Option (List ℕ)). HasBegun o (written created name now) b.text) m b.begun in
+      with_all
+      (prefix_made name (unwrap_or r.frozen []) before now created s (subst (λ (o : Option (List ℕ)). HasBegun (written false name before) (written created name now) (unwrap_or o [])) (sym b.is) p))
+      (record { output = b.output; messages = b.messages })
 
   pub files_by : (cause : Cause) → FrozenBy cause r (record { two = two; frozen_old = made0; frozen_new = written created name now })
+      → FrozenLast cause r before now (record { two = two; frozen_old = made0; frozen_new = written created name now })
       → ByCause cause (NoneOfThree (record { two = two_failures; frozen_old = failures0; frozen_new = failures })) (OneOfThree (record { two = two_failures; frozen_old = failures0; frozen_new = failures }) (record { two = two; frozen_old = made0; frozen_new = written created name now }))
-      → RanFiles cause name (unwrap_or r.frozen []) before now
-  files_by causes.Done h f = done_by r.frozen h f.1
-  files_by causes.Write h f = write_by made0 m h
-  files_by c h f = kept_so name before now created failures s t (f.1 ∙ z) (h ∙ m)
+      → RanFiles cause name r two before now
+  files_by causes.Done h u f = done_by r.frozen h f.1
+  files_by causes.Write h u f = write_by u
+  files_by c h u f = kept_so name before now created failures s t (f.1 ∙ z) (h ∙ m)
 
 pub counted_by : (cause : Cause) (f : Three ℕ) (w : Three (Option (List ℕ))) → ByCause cause (NoneOfThree f) (OneOfThree f w) → CountedBy cause (f.two).messages_old (f.two).messages_new
 counted_by causes.Write f w (inl (inl h, i, j)) = inl h.1
@@ -95,15 +111,16 @@ pub ran_so : (r : RunResult) (e : Ending) (m : Bool) (name : List ℕ) (before n
     → RunGives r e (record { two = writers o0 o1 m0 m1; frozen_old = written created0 name w0; frozen_new = written created name now })
     → ByCause e.cause (NoneOfThree (record { two = writers of0 of1 mf0 mf1; frozen_old = failures0; frozen_new = failures }))
     (OneOfThree (record { two = writers of0 of1 mf0 mf1; frozen_old = failures0; frozen_new = failures }) (record { two = writers o0 o1 m0 m1; frozen_old = written created0 name w0; frozen_new = written created name now }))
+    → FrozenLast e.cause r before now (record { two = writers o0 o1 m0 m1; frozen_old = written created0 name w0; frozen_new = written created name now })
     → e.status ≡ status_of (Ends e.cause) m
     → now ≡ after_writing created name (written created name now) before → is_tried created failures (written created name now) ≡ true
     → RanBy name r e (seen_from o0 o1 m0 m1 mf0 mf1 before now)
-ran_so r e m name before now created failures failures0 created0 w0 o0 o1 m0 m1 of0 of1 mf0 mf1 c k z g b st a t = record {
+ran_so r e m name before now created failures failures0 created0 w0 o0 o1 m0 m1 of0 of1 mf0 mf1 c k z g b u st a t = record {
   gives = g.gives;
   counted = counted_by e.cause (record { two = writers of0 of1 mf0 mf1; frozen_old = failures0; frozen_new = failures }) (record { two = writers o0 o1 m0 m1; frozen_old = written created0 name w0; frozen_new = written created name now }) b;
   any_missing = m;
   is_status = st;
-  files = files_by r name before now created failures failures0 (written created0 name w0) (writers o0 o1 m0 m1) (writers of0 of1 mf0 mf1) (starts_so name before w0 created0 c k) z a t e.cause g.frozen b;
+  files = files_by r name before now created failures failures0 (written created0 name w0) (writers o0 o1 m0 m1) (writers of0 of1 mf0 mf1) (starts_so name before w0 created0 c k) z a t e.cause g.frozen u b;
 }
 
 -- a run that was not begun

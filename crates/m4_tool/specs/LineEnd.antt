@@ -1,5 +1,6 @@
 -- LineEnd: how following a line ends: as the line is defined, or broken off by a failure.
--- Believed: public contracts cite it. Words: Seen, seen, AllShown, Reports, failure_of, AsDefined, BrokeOff, Follows.
+-- Believed: public contracts cite it. Words: Seen, seen, AllShown, IsShownSince, Reports, failure_of, AsDefined,
+-- BrokeOff, Follows.
 -- own: that a last flush that fails is a write fault.
 use Rattle.std.specs.Prelude.{◌≡◌, ◌≢◌, ◌⊎◌, ℕ, Bool, true, false, List, [], ◌∷◌, ◌++◌, Option, Some, None, Result}
 use Rattle.std.specs.Prelude.{option_map, unwrap_or}
@@ -12,7 +13,7 @@ use Rattle.m4_engine.specs.declared.ending.Cause.TheVariants as causes
 use Rattle.m4_tool.specs.declared.followed.Failure.{Failure}
 use Rattle.m4_tool.specs.declared.followed.Failure.TheVariants as failures
 use Rattle.m4_tool.specs.Failure.{failure_lines}
-use Rattle.m4_tool.specs.FailureCounts.{Grew, GrewBy}
+use Rattle.m4_tool.specs.FailureCounts.{Grew, GrewBy, Rose}
 use Rattle.m4_tool.specs.Line.{LineResult, Request, freeze_name, refusals, reload_name}
 use Rattle.m4_tool.specs.World.{Files, with_file, made_file}
 
@@ -46,6 +47,11 @@ abbrev pub AllShown : {O M W : Type 0} → (O → Option (List ℕ)) → (O → 
     → (M → Option (List ℕ)) → (W → Option Files) → (W → Option Files) → O → M → W → Type 0
 AllShown shown contents messages_shown messages_contents kept files out messages world =
     (shown out ≡ contents out) × (messages_shown messages ≡ messages_contents messages) × (kept world ≡ files world)
+
+-- all that a writer has is shown, or a write or a flush of it failed since it had so many failures
+pub record IsShownSince (base : ℕ) (shown contents : Option (List ℕ)) (failures : ℕ) : Type 0 where
+  pub grew : Grew base failures
+  pub shows : (shown ≡ contents) ⊎ Rose base failures
 
 -- a line was added to the messages, or a prefix of it if the messages failed
 pub record Reported (line : List ℕ) (old new : Option (List ℕ)) (failures failures' : ℕ) : Type 0 where
@@ -96,10 +102,16 @@ pub record HasPrefix (name text : List ℕ) (old new : Option Files) : Type 0 wh
   pub parts : text ≡ front ++ rest
   pub files : new ≡ option_map (with_file name front) old
 
+-- the same, after all output and all messages of the run were written
+pub record CutsFile (name : List ℕ) (r : LineResult) (begun : Option (List ℕ)) (w : Seen) : Type 0 where
+  pub output : w.out_new ≡ with_bytes w.out_old r.output
+  pub messages : begun ≡ with_bytes w.messages_old r.messages
+  pub file : HasPrefix name r.frozen w.files_old w.files_new
+
 -- the files are as they were, unless a write failed: then the named one may have a prefix of the text
-abbrev pub FilesBy : Failure → List ℕ → List ℕ → Option Files → Option Files → Type 0
-FilesBy failures.Write name text old new = (new ≡ old) ⊎ HasPrefix name text old new
-FilesBy failure name text old new = new ≡ old
+abbrev pub FilesBy : Failure → List ℕ → LineResult → Option (List ℕ) → Seen → Type 0
+FilesBy failures.Write name r begun w = (w.files_new ≡ w.files_old) ⊎ CutsFile name r begun w
+FilesBy failure name r begun w = w.files_new ≡ w.files_old
 
 -- a line about a refused frozen file is the one that is defined, unless memory ran out while the file was read
 abbrev pub RefusesAs : List ℕ → Cause → LineResult → Type 0
@@ -120,7 +132,7 @@ pub record BrokeOff (name file : List ℕ) (r : LineResult) (status : ℕ) (fail
   pub count : ℕ
   pub counted : Grew w.failures_old count
   pub reports : Reports (added_lines file cause flushed) begun w.messages_new count w.failures_new
-  pub files : FilesBy failure name r.frozen w.files_old w.files_new
+  pub files : FilesBy failure name r begun w
 
 -- by what failed; if only the line for a refused file could not be written, all else is as defined
 abbrev pub EndsBy : Option Failure → List ℕ → List ℕ → LineResult → ℕ → Seen → Type 0

@@ -12,7 +12,7 @@ use Rattle.m4_engine.specs.declared.source.Source.{Source as RunSource}
 use Rattle.m4_engine.specs.declared.source.Source.TheVariants as sources
 use Rattle.m4_engine.specs.Expansion.{Ends}
 use Rattle.m4_engine.specs.Run.{RunResult, status_of}
-use Rattle.m4_engine.specs.Writers.{writers, ByCause}
+use Rattle.m4_engine.specs.Writers.{Contents, HasWritten, writers, ByCause}
 use Rattle.m4_engine.specs.WholeRun.{GivesBy}
 use Rattle.m4_tool.specs.declared.followed.Failure.{Failure}
 use Rattle.m4_tool.specs.declared.followed.Failure.TheVariants as failures
@@ -41,10 +41,11 @@ named_in files input [] = []
 named_in files input (name ∷ names) = named_at files input name ∷ named_in files (input_after input name) names
 
 -- the files after a run, by its cause
-abbrev pub RanFiles : Cause → List ℕ → List ℕ → Option Files → Option Files → Type 0
-RanFiles causes.Done name text old new = new ≡ option_map (made_file name text) old
-RanFiles causes.Write name text old new = (new ≡ old) ⊎ HasPrefix name text old new
-RanFiles cause name text old new = new ≡ old
+abbrev pub RanFiles : Cause → List ℕ → RunResult → Contents → Option Files → Option Files → Type 0
+RanFiles causes.Done name r w old new = new ≡ option_map (made_file name (unwrap_or r.frozen [])) old
+RanFiles causes.Write name r w old new =
+    (new ≡ old) ⊎ (HasPrefix name (unwrap_or r.frozen []) old new × HasWritten r.output r.messages w)
+RanFiles cause name r w old new = new ≡ old
 
 -- no count is lower
 abbrev pub AllGrew : Counts → Type 0
@@ -83,7 +84,8 @@ pub record RanBy (name : List ℕ) (r : RunResult) (e : Ending) (w : Seen) : Typ
   pub counted : CountedBy e.cause w.failures_old w.failures_new
   pub any_missing : Bool
   pub is_status : e.status ≡ status_of (Ends e.cause) any_missing
-  pub files : RanFiles e.cause name (unwrap_or r.frozen []) w.files_old w.files_new
+  pub files : RanFiles e.cause name r (writers w.out_old w.out_new w.messages_old w.messages_new)
+      w.files_old w.files_new
 
 -- what failed, by whether the line for a refused file was written and flushed
 abbrev pub failure_after : Option Failure → Bool → Option Failure

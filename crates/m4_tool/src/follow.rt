@@ -13,7 +13,7 @@ ghost use Rattle.m4_tool.specs.Line.{thaw_in, words_of};
 ghost use Rattle.m4_tool.specs.FailureCounts.{AnyRose, FailedAs, counts_of};
 ghost use Rattle.m4_tool.specs.declared.followed.Failure.TheVariants as failures;
 ghost use Rattle.m4_tool.specs.Known.{AnyFails, ExtendFiles, Knows, KnowsFiles, MayGive};
-ghost use Rattle.m4_tool.specs.LineEnd.{AllShown, EndsBy, Follows, seen};
+ghost use Rattle.m4_tool.specs.LineEnd.{AllShown, EndsBy, Follows, IsShownSince, seen};
 ghost use Rattle.m4_tool.specs.LineMode.{ModeFollows, ends_of, mode_of};
 ghost use Rattle.m4_tool.specs.Modes.{RunsBy};
 ghost use Rattle.m4_tool.specs.Unfinished.{LeavesMarked};
@@ -97,6 +97,12 @@ pub fn follow<W: World, O: Shows, M: Shows>(
     // that was made
     ensures shown { result.failure ≡ None
         → AllShown O.shown O.contents M.shown M.contents W.kept W.files out.new messages.new result.world }
+    // line in a world: what was written is flushed at the end whatever failed, unless a write or a flush of the same
+    // writer did
+    ensures shown_output { IsShownSince (O.failures out.old) (O.shown out.new) (O.contents out.new)
+        (O.failures out.new) }
+    ensures shown_messages { IsShownSince (M.failures messages.old) (M.shown messages.new) (M.contents messages.new)
+        (M.failures messages.new) }
 {
     match mode_of(line) {
         Some((mode, file)) => follow_mode(alloc, mode, file, world, out, messages),
@@ -132,6 +138,10 @@ fn follow_mode<W: World, O: Shows, M: Shows>(
         out.old out.new messages.old messages.new world result.world) }
     ensures shown { result.failure ≡ None
         → AllShown O.shown O.contents M.shown M.contents W.kept W.files out.new messages.new result.world }
+    ensures shown_output { IsShownSince (O.failures out.old) (O.shown out.new) (O.contents out.new)
+        (O.failures out.new) }
+    ensures shown_messages { IsShownSince (M.failures messages.old) (M.shown messages.new) (M.contents messages.new)
+        (M.failures messages.new) }
 {
     match world.open(file) {
         Some(mut reader) => {
@@ -189,6 +199,10 @@ fn follow_run<W: World, O: Shows, M: Shows>(
         out.old out.new messages.old messages.new world result.world) }
     ensures shown { result.failure ≡ None
         → AllShown O.shown O.contents M.shown M.contents W.kept W.files out.new messages.new result.world }
+    ensures shown_output { IsShownSince (O.failures out.old) (O.shown out.new) (O.contents out.new)
+        (O.failures out.new) }
+    ensures shown_messages { IsShownSince (M.failures messages.old) (M.shown messages.new) (M.contents messages.new)
+        (M.failures messages.new) }
 {
     match &line.reload {
         None => follow_from(alloc, line, &mut None, b"", world, out, messages),
@@ -238,6 +252,10 @@ fn follow_from<W: World, O: Shows, M: Shows>(
         out.old out.new messages.old messages.new world result.world) }
     ensures shown { result.failure ≡ None
         → AllShown O.shown O.contents M.shown M.contents W.kept W.files out.new messages.new result.world }
+    ensures shown_output { IsShownSince (O.failures out.old) (O.shown out.new) (O.contents out.new)
+        (O.failures out.new) }
+    ensures shown_messages { IsShownSince (M.failures messages.old) (M.shown messages.new) (M.contents messages.new)
+        (M.failures messages.new) }
 {
     let ran = run_line(alloc, line, frozen, world, out, messages);
     close(

@@ -21,40 +21,44 @@ use clap::{Arg, ArgAction, ArgMatches, Command, Error};
 use m4_engine::options::Options;
 use std::alloc::{AllocError, Global};
 
-const ABOUT: &str =
-    "Expands macros in the language of GNU M4. A library is frozen once, and each page starts from it:
+const ABOUT: &str = "Expands macros in the language of GNU M4. A library is frozen once, and each
+page starts from it:
 
   m4r -F macros.m4f macros.m4             freezes the library
   m4r -R macros.m4f page.m4 > page.html   expands a page from it
 
-Together they write what `m4r macros.m4 page.m4` writes, if the first ends with status 0 and `m4wrap`
-has saved no text in it.";
+Together they write what `m4r macros.m4 page.m4` writes, if the first ends
+with status 0 and `m4wrap` has saved no text in it.";
 
 const USAGE: &str = "m4r [-F FILE] [-R FILE] [-L N] [--expansions=N] [-P] [FILE...]
        m4r --canon=FILE
        m4r --inspect=FILE";
 
 const AFTER_HELP: &str =
-    "The files are read in this order. `-` there, or no FILE, is standard input; the FILE of an option
-may be a file called `-`. Output goes to standard output, messages to standard error. Use --canon or
---inspect without any other option or file. The FILE of an option is a frozen state file, of m4r or
-of GNU m4. That of -F is created when its first byte is written, so that -R and -F may name one file.
+    "The files are read in this order. `-` there, or no FILE, is standard input;
+the FILE of an option may be a file called `-`. Output goes to standard output,
+messages to standard error. Use --canon or --inspect without any other option
+or file. The FILE of an option is a frozen state file, of m4r or of GNU m4.
+That of -F is created when its first byte is written, so that -R and -F may
+name one file.
 
-Not in m4r: the builtins include, sinclude, syscmd, esyscmd, sysval, regexp, patsubst, format,
-maketemp, mkstemp, traceon, traceoff, debugmode, debugfile, changeword and __program__, which are
-ordinary words, and options like -D, -I, -s and --version. The man page, m4r(1), says what to do.
+Not in m4r: the builtins include, sinclude, syscmd, esyscmd, sysval, regexp,
+patsubst, format, maketemp, mkstemp, traceon, traceoff, debugmode, debugfile,
+changeword and __program__, which are ordinary words, and options like -D, -I,
+-s and --version. The man page, m4r(1), says what to do.
 
 Exit status:
    0  success
-   1  an unknown option, a file that cannot be opened, unfinished input, a limit that was
-      exceeded, a damaged frozen file, a read or write error, or no memory left
+   1  an unknown option, a file that cannot be opened, unfinished input, a
+      limit that was exceeded, a damaged frozen file, a read or write error,
+      or no memory left
   63  a frozen file of a newer format
    N  a macro ended the run by `m4exit`, with this code
 
 Examples:
-  m4r macros.m4 page.m4 > page.html          expands a page with a library of macros
-  m4r --inspect=macros.m4f                   lists the contents of the frozen library
-  m4r --canon=macros.m4f > canonical.m4f     writes its canonical text, for cmp";
+  m4r macros.m4 page.m4 > page.html        expands a page with a library
+  m4r --inspect=macros.m4f                 lists what a frozen library has
+  m4r --canon=macros.m4f > canonical.m4f   writes its canonical text, for cmp";
 
 /// The limit of open calls, unless the line gives one.
 const USUAL_NESTING: u32 = 1024;
@@ -310,7 +314,7 @@ fn with_frozen<'a>(alloc: Global, command: Command<'a>) -> Result<Command<'a>, A
     let freeze = path_option(
         alloc,
         "freeze-state",
-        "Writes the state at the end of the run to FILE, and prints no diversions",
+        "Writes the end state to FILE; prints no diversions",
     )
     .short('F');
     let command = command.arg(freeze)?;
@@ -326,7 +330,7 @@ fn with_limits<'a>(alloc: Global, command: Command<'a>) -> Result<Command<'a>, A
         alloc,
         "nesting-limit",
         0,
-        "Allows at most N nested calls; 0 is no limit [default: 1024]",
+        "At most N nested calls; 0 is no limit [default: 1024]",
     )
     .short('L');
     let command = command.arg(nesting)?;
@@ -334,7 +338,7 @@ fn with_limits<'a>(alloc: Global, command: Command<'a>) -> Result<Command<'a>, A
         alloc,
         "expansions",
         1,
-        "Allows at most N calls in all [default: 4294967295]",
+        "At most N calls in all [default: 4294967295]",
     ))
 }
 
@@ -346,7 +350,7 @@ fn with_prefix<'a>(alloc: Global, command: Command<'a>) -> Result<Command<'a>, A
         .long("prefix-builtins")
         .short('P')
         .action(ArgAction::SetTrue)
-        .help("Prefixes the name of each builtin with `m4_`; no effect with -R");
+        .help("Prefixes builtins with `m4_`; no effect with -R");
     command.arg(prefix)
 }
 

@@ -6,3 +6,4 @@ mod delimiters;
 mod diversions;
 mod lanes;
 mod names;
+mod words;

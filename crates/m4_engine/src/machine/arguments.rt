@@ -1,8 +1,8 @@
 //! Bytes of an argument list that are no other token: each extends an argument, ends it, or closes the list.
 //! Manual: "Macro arguments".
 
-ghost use Rattle.std.specs.Prelude.{◌≡◌, OnOk};
-ghost use Rattle.m4_engine.specs.Engine.{ending_argument, IfHead, mode_of, outer_of};
+ghost use Rattle.std.specs.Prelude.{◌≡◌, OnOk, OnErr};
+ghost use Rattle.m4_engine.specs.Engine.{ending_argument, IfHead, KeepsOutput, mode_of, outer_of};
 ghost use Rattle.m4_engine.specs.Turns.{IsTaken, StepsBy, close_in, step};
 ghost use Rattle.m4_engine.specs.Expand.{take_other};
 
@@ -17,8 +17,9 @@ impl Machine {
     #[inline(always)]
     pub(super) fn take_byte(&mut self, byte: u8, input: &mut Input) -> Result<Turned, TurnFault>
         requires { IsTaken input.old }
-        ensures { StepsBy result self.old self.new input.old input.new
+        ensures steps { StepsBy result self.old self.new input.old input.new
             (λ s. step (outer_of self.old.open_calls) (take_other (mode_of self.old.open_calls) byte s)) }
+        ensures kept { OnErr result (KeepsOutput self.old self.new) }
     {
         let Some(call) = &mut self.innermost else {
             self.put_text(&[byte])?;
@@ -38,7 +39,8 @@ impl Machine {
     #[inline(always)]
     fn end_argument(&mut self) -> Result<(), TurnFault>
         requires { IfHead self.old.open_calls (λ c. c.parentheses ≡ 0) }
-        ensures { OnOk result (self.new ≡ ending_argument self.old) }
+        ensures engine { OnOk result (self.new ≡ ending_argument self.old) }
+        ensures kept { OnErr result (KeepsOutput self.old self.new) }
     {
         let Some(call) = &mut self.innermost else {
             return Ok(());
@@ -57,8 +59,9 @@ impl Machine {
     fn take_closing(&mut self, input: &mut Input) -> Result<Turned, TurnFault>
         requires list { IfHead self.old.open_calls (λ c. c.parentheses ≡ 0) }
         requires input { IsTaken input.old }
-        ensures { StepsBy result self.old self.new input.old input.new
+        ensures steps { StepsBy result self.old self.new input.old input.new
             (λ s. step (outer_of self.old.open_calls) (close_in self.old.open_calls s)) }
+        ensures kept { OnErr result (KeepsOutput self.old self.new) }
     {
         self.end_argument()?;
         let Some(call) = self.close_list() else {

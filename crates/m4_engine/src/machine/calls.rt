@@ -1,10 +1,10 @@
 //! Calls: a call begins at its name and is made when its arguments are complete. Its result is pushed.
 //! Manual: "Macro invocation", "Macro arguments".
 
-ghost use Rattle.std.specs.Prelude.{◌≡◌, [], ◌++◌, None, Some, OnOk};
+ghost use Rattle.std.specs.Prelude.{◌≡◌, [], ◌++◌, None, Some, OnOk, OnErr};
 ghost use Rattle.m4_input.specs.declared.pushed.Pushed.TheVariants as pushes;
 ghost use Rattle.m4_builtins.specs.Act.{IsPushed};
-ghost use Rattle.m4_engine.specs.Engine.{with_made};
+ghost use Rattle.m4_engine.specs.Engine.{HasFront, KeepsOutput, with_made};
 ghost use Rattle.m4_engine.specs.Expand.{with_saved};
 ghost use Rattle.m4_engine.specs.Turns.{IsTaken, StepsBy, Pushes, Stays, called_within};
 
@@ -80,6 +80,7 @@ fn put_more(
     ensures output { OnOk result (output.new.items ≡ output.old.items ++ effect.old.output) }
     ensures saved { OnOk result (saved.new.items ≡ with_saved effect.old.wrap saved.old.items) }
     ensures left { OnOk result (effect.new ≡ record effect.old { wrap = None }) }
+    ensures kept { OnErr result (HasFront output.old.items output.new.items) }
 {
     // Hardly any call makes them.
     if !effect.has_more() {
@@ -110,7 +111,8 @@ impl Machine {
     #[inline(never)]
     pub(super) fn call(&mut self, call: OpenCall, input: &mut Input) -> Result<Turned, TurnFault>
         requires { IsTaken input.old }
-        ensures { StepsBy result self.old self.new input.old input.new (called_within self.old.open_calls call) }
+        ensures steps { StepsBy result self.old self.new input.old input.new (called_within self.old.open_calls call) }
+        ensures kept { OnErr result (KeepsOutput self.old self.new) }
     {
         lend(&mut self.effect, input);
         self.effect.clear();

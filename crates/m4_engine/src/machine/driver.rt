@@ -2,11 +2,11 @@
 //! buffered. Manual: "How m4 copies input to output".
 
 ghost use Rattle.std.specs.Prelude.{◌≡◌, ◌<◌, ◌≤◌, true, None, Ok, length, take, OnOk, OnErr};
-ghost use Rattle.m4_state.specs.Device.{with_bytes};
+ghost use Rattle.m4_state.specs.Device.{with_bytes, one_more};
 ghost use Rattle.m4_input.specs.Input.{failures_after};
 ghost use Rattle.m4_engine.specs.Engine.{IsReady, after_flush};
-ghost use Rattle.m4_engine.specs.Writers.{both, FailsBy, FailsOnce};
-ghost use Rattle.m4_engine.specs.Continued.{HandGives, OrderBy, IsFlushed, cause_of};
+ghost use Rattle.m4_engine.specs.Writers.{both, ByCause, FailsBy, FailsOnce};
+ghost use Rattle.m4_engine.specs.Continued.{HandGives, OrderBy, IsFlushed, GivesOut, cause_of};
 ghost use Rattle.m4_engine.specs.ReadsOn.{ReadsOn};
 ghost use Rattle.m4_engine.specs.Expands.{Expands, ReadsBy, StepBreaksBy, FlushesPrefix, IsInOrder, IsIdle, at_rest};
 
@@ -68,10 +68,26 @@ impl Machine {
         Ok(())
     }
 
+    /// Writes the output of the turns before one that had no memory, the first `earlier` bytes, since the run ends.
+    /// That takes no memory. Returns the cause that ends it. Not inlined, since hardly any run calls it.
+    #[inline(never)]
+    fn give_out<O: ByteSink>(&self, earlier: usize, out: &mut O) -> Cause
+        requires { earlier ≤ length self.now.output }
+        ensures gives { GivesOut (take earlier self.now.output) (O.contents out.old) (O.contents out.new) result }
+        ensures counted { ByCause result (O.failures out.new ≡ O.failures out.old)
+            (O.failures out.new ≡ one_more (O.failures out.old)) }
+    {
+        let (before, _) = self.output.split_at(earlier);
+        match write_all(out, before) {
+            Ok(()) => Cause::OutOfMemory,
+            Err(DeviceFault) => Cause::Write,
+        }
+    }
+
     /// Expands the bytes in hand as far as they decide, and returns for what more are needed, or the cause that ends
     /// the expansion. Writes messages as they arise, output in blocks, and all of both if more bytes are needed. If
-    /// the rest of a line is to be discarded, it does that first. `copy` is a buffer for a token that spans several
-    /// texts.
+    /// the rest of a line is to be discarded, it does that first. If an allocation fails, it writes the output of the
+    /// turns before. `copy` is a buffer for a token that spans several texts.
     fn expand_in_hand<O: ByteSink, M: ByteSink>(
         &mut self,
         wanted: Wanted,
@@ -98,12 +114,13 @@ impl Machine {
             return Err(Cause::OutOfMemory);
         };
         'turns: loop {
+            let made = self.output.len();
             let Ok(lookahead) = self.pass_plain(input, copy, &mut next) else {
-                return Err(Cause::OutOfMemory);
+                return Err(self.give_out(made, out));
             };
             let earlier = self.output.len();
             let Ok(turned) = self.turn(lookahead, &mut next, input) else {
-                return Err(Cause::OutOfMemory);
+                return Err(self.give_out(earlier, out));
             };
             // If the turn leaves no message and less than a block of output, nothing is flushed.
             if let Turned::GoesOn = turned

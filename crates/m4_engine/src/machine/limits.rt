@@ -1,9 +1,9 @@
 //! The limits of calls, and of calls that are open, and the errors that report them. Manual: "Limits control".
 
-ghost use Rattle.std.specs.Prelude.{◌≡◌, nat_lt, ◌++◌, OnOk, true, codes};
+ghost use Rattle.std.specs.Prelude.{◌≡◌, nat_lt, ◌++◌, OnOk, OnErr, true, codes};
 ghost use Rattle.std.specs.Fmt.{decimal};
 ghost use Rattle.m4_builtins.specs.Messages.{error};
-ghost use Rattle.m4_engine.specs.Engine.{with_engine_message, with_one_call, is_deep_in};
+ghost use Rattle.m4_engine.specs.Engine.{KeepsOutput, with_engine_message, with_one_call, is_deep_in, allows_call};
 
 use crate::call::OpenCall;
 use crate::machine::Machine;
@@ -28,6 +28,13 @@ impl Machine {
         self.most_nested > 0 && open as u64 >= self.most_nested
     }
 
+    /// Returns whether the limits allow one more call.
+    pub(super) fn allows_call(&self) -> bool
+        ensures { result ≡ allows_call self.now }
+    {
+        self.calls < self.most_calls && !self.is_deep()
+    }
+
     /// Adds the error that a call exceeds a limit. `what` is the text after the number.
     pub(super) fn report_limit(
         &mut self,
@@ -35,8 +42,9 @@ impl Machine {
         limit: u64,
         what: &[u8],
     ) -> Result<(), TurnFault>
-        ensures { OnOk result (self.new
+        ensures engine { OnOk result (self.new
             ≡ with_engine_message (error call.now.place (codes "more than " ++ decimal limit ++ what.now)) self.old) }
+        ensures kept { OnErr result (KeepsOutput self.old self.new) }
     {
         let mut buffer = Buffer::new();
         let mut text = Vec::new(self.alloc);

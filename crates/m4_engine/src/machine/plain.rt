@@ -4,8 +4,8 @@
 //! A pass consumes tokens of one text, the bytes at the start of the input. If they leave a token open and others in
 //! hand come after them, the next pass has a longer text.
 
-ghost use Rattle.std.specs.Prelude.{◌≡◌, [], IfOk, OnOk};
-ghost use Rattle.m4_engine.specs.Engine.{IsReady, allows_call, put_in};
+ghost use Rattle.std.specs.Prelude.{◌≡◌, [], IfOk, OnOk, OnErr};
+ghost use Rattle.m4_engine.specs.Engine.{IsReady, KeepsOutput, put_in};
 ghost use Rattle.m4_engine.specs.Passes.{IsLookahead, PassesBy, Passes};
 
 use super::OUTPUT_BLOCK;
@@ -32,6 +32,7 @@ impl Machine {
         requires { IsReady input.old }
         ensures passes { OnOk result (Passes self.old self.new input.old input.new) }
         ensures lookahead { IfOk result (λ a. IsLookahead a next.new self.new input.new.pending) }
+        ensures kept { OnErr result (KeepsOutput self.old self.new) }
     {
         let mut looked = 0;
         'fronts: loop {
@@ -66,13 +67,13 @@ impl Machine {
         more: bool,
         next: &mut OpenCall,
     ) -> Result<(usize, Lookahead), TurnFault>
-        ensures { IfOk result (λ r. PassesBy r.0 r.1 next.new text.now more self.old self.new) }
+        ensures passes { IfOk result (λ r. PassesBy r.0 r.1 next.new text.now more self.old self.new) }
+        ensures kept { OnErr result (KeepsOutput self.old self.new) }
     {
-        let room = self.calls < self.most_calls && !self.is_deep();
         let Some(call) = &mut self.innermost else {
-            return self.pass_outside(text, more, room, next);
+            return self.pass_outside(text, more, next);
         };
-        let passed = pass_tokens(call, text, &self.state, next, more, room)?;
+        let passed = pass_tokens(call, text, &self.state, next, more)?;
         Ok(passed)
     }
 
@@ -83,14 +84,13 @@ impl Machine {
         &mut self,
         text: &[u8],
         more: bool,
-        room: bool,
         next: &mut OpenCall,
     ) -> Result<(usize, Lookahead), TurnFault>
         requires outside { self.old.open_calls ≡ [] }
-        requires room { room ≡ allows_call self.old }
-        ensures { IfOk result (λ r. PassesBy r.0 r.1 next.new text.now more self.old self.new) }
+        ensures passes { IfOk result (λ r. PassesBy r.0 r.1 next.new text.now more self.old self.new) }
+        ensures kept { OnErr result (KeepsOutput self.old self.new) }
     {
-        let (len, lookahead) = pass_tokens(&mut Outside, text, &self.state, next, more, room)?;
+        let (len, lookahead) = pass_tokens(&mut Outside, text, &self.state, next, more)?;
         let (passed, rest) = text.split_at(len);
         self.put_outside(passed)?;
         match lookahead {
@@ -105,7 +105,8 @@ impl Machine {
     /// Appends text where it goes outside of calls: to the output, to a diversion, or nowhere.
     #[inline(always)]
     pub(super) fn put_outside(&mut self, text: &[u8]) -> Result<(), TurnFault>
-        ensures { OnOk result (self.new ≡ put_in [] text.now self.old) }
+        ensures engine { OnOk result (self.new ≡ put_in [] text.now self.old) }
+        ensures kept { OnErr result (KeepsOutput self.old self.new) }
     {
         if self.state.current() == 0 {
             append(&mut self.output, text)?;

@@ -1,11 +1,11 @@
 //! One turn of an expansion: consumes the first pending token and acts on it.
 //! Manual: "Macro invocation", "How m4 copies input to output".
 
-ghost use Rattle.std.specs.Prelude.{◌≡◌, ◌≢◌, None, take};
+ghost use Rattle.std.specs.Prelude.{◌≡◌, ◌≢◌, false, None, OnErr, take};
 ghost use Rattle.m4_input.specs.Pending.{text_of};
-ghost use Rattle.m4_engine.specs.Engine.{IsReady};
+ghost use Rattle.m4_engine.specs.Engine.{IsReady, KeepsOutput, allows_call};
 ghost use Rattle.m4_engine.specs.Expansion.{Call};
-ghost use Rattle.m4_engine.specs.Lookahead.{IsCalled, IsNamed};
+ghost use Rattle.m4_engine.specs.Lookahead.{IsCalled, IsNamed, Recognises};
 ghost use Rattle.m4_engine.specs.declared.lookahead.Lookahead.TheVariants as aheads;
 ghost use Rattle.m4_engine.specs.Passes.{IsLookahead};
 ghost use Rattle.m4_engine.specs.Turns.{Turns};
@@ -31,7 +31,8 @@ impl Machine {
     ) -> Result<Turned, TurnFault>
         requires ready { IsReady input.old }
         requires lookahead { IsLookahead lookahead next.old self.old input.old.pending }
-        ensures { Turns result self.old self.new input.old input.new }
+        ensures turns { Turns result self.old self.new input.old input.new }
+        ensures kept { OnErr result (KeepsOutput self.old self.new) }
     {
         match lookahead {
             Lookahead::Byte(byte) => {
@@ -39,6 +40,9 @@ impl Machine {
                 self.take_byte(byte, input)
             }
             Lookahead::Expansion(len) => {
+                if !self.allows_call() {
+                    return self.refuse_call(len, false, next, input);
+                }
                 input.consume(len, true);
                 self.count();
                 let Def::Text(text) = next.definition() else {
@@ -49,6 +53,9 @@ impl Machine {
                 Ok(Turned::GoesOn)
             }
             Lookahead::LineSkip(len) => {
+                if !self.allows_call() {
+                    return self.refuse_call(len, false, next, input);
+                }
                 input.consume(len, true);
                 self.count();
                 self.begin_argument();
@@ -78,7 +85,8 @@ impl Machine {
     ) -> Result<Turned, TurnFault>
         requires ready { IsReady input.old }
         requires lookahead { (next : Call) × IsLookahead (aheads.Text begin end all) next self.old input.old.pending }
-        ensures { Turns result self.old self.new input.old input.new }
+        ensures turns { Turns result self.old self.new input.old input.new }
+        ensures kept { OnErr result (KeepsOutput self.old self.new) }
     {
         let mut copy = Vec::new(self.alloc);
         let Some((text, _)) = input.front(end, &mut copy)? else {
@@ -95,7 +103,8 @@ impl Machine {
     fn take_definition(&mut self, input: &mut Input) -> Result<Turned, TurnFault>
         requires ready { IsReady input.old }
         requires first { input.old.pending.definition ≢ None }
-        ensures { Turns result self.old self.new input.old input.new }
+        ensures turns { Turns result self.old self.new input.old input.new }
+        ensures kept { OnErr result (KeepsOutput self.old self.new) }
     {
         let Some(definition) = input.take_definition() else {
             unreachable!();
@@ -120,23 +129,20 @@ impl Machine {
         requires first { input.old.pending.definition ≡ None }
         requires named { IsNamed len listed self.old.state input.old.pending.may_follow (text_of input.old.pending) }
         requires called { IsCalled next.old self.old.state (take len (text_of input.old.pending)) }
-        ensures { Turns result self.old self.new input.old input.new }
+        ensures turns { Turns result self.old self.new input.old input.new }
+        ensures kept { OnErr result (KeepsOutput self.old self.new) }
     {
-        next.set_place(input.share_name()?, input.line());
-        input.consume(len, true);
         if !listed && needs_list(next.definition()) {
+            input.consume(len, true);
             self.put_text(next.name())?;
             return Ok(Turned::GoesOn);
         }
-        if self.calls >= self.most_calls {
-            self.report_limit(next, self.most_calls, b" calls")?;
-            return Ok(Turned::Ends(TurnEnd::ExpansionLimit));
+        if !self.allows_call() {
+            return self.refuse_call(len, listed, next, input);
         }
+        next.set_place(input)?;
+        input.consume(len, true);
         self.count();
-        if self.is_deep() {
-            self.report_limit(next, self.most_nested, b" nested calls")?;
-            return Ok(Turned::Ends(TurnEnd::NestingLimit));
-        }
         let call = std::mem::replace(next, self.spare.take()?);
         if !listed {
             return self.call(call, input);
@@ -145,5 +151,34 @@ impl Machine {
         input.consume(1, false);
         self.open_list(call)?;
         Ok(Turned::GoesOn)
+    }
+
+    /// Consumes a name of this length that is called, though the limits allow no call, and reports the limit. Sets the
+    /// place of `next`, whatever call it is.
+    #[inline(never)]
+    fn refuse_call(
+        &mut self,
+        len: usize,
+        listed: bool,
+        next: &mut OpenCall,
+        input: &mut Input,
+    ) -> Result<Turned, TurnFault>
+        requires ready { IsReady input.old }
+        requires first { input.old.pending.definition ≡ None }
+        requires named { IsNamed len listed self.old.state input.old.pending.may_follow (text_of input.old.pending) }
+        requires called { Recognises listed self.old.state (take len (text_of input.old.pending)) }
+        requires refused { allows_call self.old ≡ false }
+        ensures turns { Turns result self.old self.new input.old input.new }
+        ensures kept { OnErr result (KeepsOutput self.old self.new) }
+    {
+        next.set_place(input)?;
+        input.consume(len, true);
+        if self.calls >= self.most_calls {
+            self.report_limit(next, self.most_calls, b" calls")?;
+            return Ok(Turned::Ends(TurnEnd::ExpansionLimit));
+        }
+        self.count();
+        self.report_limit(next, self.most_nested, b" nested calls")?;
+        Ok(Turned::Ends(TurnEnd::NestingLimit))
     }
 }

@@ -4,8 +4,8 @@ ghost use Rattle.std.specs.Prelude.{◌≡◌, ◌≢◌, [], List, ℕ, None, S
 ghost use Rattle.m4_tool.specs.declared.followed.Failure.TheVariants as failures;
 ghost use Rattle.m4_tool.specs.Failure.{failure_lines};
 ghost use Rattle.m4_tool.specs.Line.{refusals, unreloaded};
-ghost use Rattle.m4_tool.specs.FailureCounts.{FailedAs, counts_of};
-ghost use Rattle.m4_tool.specs.LineEnd.{AllShown, EndsBy, Reports, failure_of, seen};
+ghost use Rattle.m4_tool.specs.FailureCounts.{FailedAs, Grew, counts_of};
+ghost use Rattle.m4_tool.specs.LineEnd.{AllShown, EndsBy, IsShownSince, Reports, failure_of, seen};
 ghost use Rattle.m4_tool.specs.Unfinished.{LeavesMarked};
 ghost use Rattle.m4_tool.specs.LineRun.{ClosedAs, Closes, FlushedAs, ModeCloses, RefusedAs, failure_after};
 
@@ -37,6 +37,10 @@ pub fn close<W: World, O: Shows, M: Shows>(
         → LeavesMarked name.now (W.kept world) (W.kept result.world)) }
     ensures shown { result.failure ≡ None
         → AllShown O.shown O.contents M.shown M.contents W.kept W.files out.new messages.new result.world }
+    ensures shown_output { (base : ℕ) → Grew base (O.failures out.old)
+        → IsShownSince base (O.shown out.new) (O.contents out.new) (O.failures out.new) }
+    ensures shown_messages { (base : ℕ) → Grew base (M.failures messages.old)
+        → IsShownSince base (M.shown messages.new) (M.contents messages.new) (M.failures messages.new) }
 {
     let mut world = world;
     let flushed = flush_all(ending.cause, name, &mut world, out, messages);
@@ -68,6 +72,10 @@ fn flush_all<W: World, O: Shows, M: Shows>(
     ensures unfinished { failure_of cause result ≢ None → LeavesMarked name.now (W.kept world.old) (W.kept world.new) }
     ensures shown { failure_of cause result ≡ None
         → AllShown O.shown O.contents M.shown M.contents W.kept W.files out.new messages.new world.new }
+    ensures shown_output { (base : ℕ) → Grew base (O.failures out.old)
+        → IsShownSince base (O.shown out.new) (O.contents out.new) (O.failures out.new) }
+    ensures shown_messages { (base : ℕ) → Grew base (M.failures messages.old)
+        → IsShownSince base (M.shown messages.new) (M.contents messages.new) (M.failures messages.new) }
 {
     let output = out.flush().is_ok();
     let others = messages.flush().is_ok();
@@ -86,6 +94,9 @@ fn report_refusal<M: Shows>(cause: Cause, file: &[u8], messages: &mut M) -> bool
     ensures counted { RefusedAs result (M.failures messages.old) (M.failures messages.new) }
     ensures shown { result ≡ true → M.shown messages.old ≡ M.contents messages.old
         → M.shown messages.new ≡ M.contents messages.new }
+    ensures kept { (base : ℕ)
+        → IsShownSince base (M.shown messages.old) (M.contents messages.old) (M.failures messages.old)
+        → IsShownSince base (M.shown messages.new) (M.contents messages.new) (M.failures messages.new) }
 {
     match cause {
         Cause::Frozen(_) => {
@@ -102,6 +113,9 @@ fn report_last<M: Shows>(failure: Option<Failure>, messages: &mut M)
     ensures reports { Reports (failure_lines failure) (M.contents messages.old) (M.contents messages.new)
         (M.failures messages.old) (M.failures messages.new) }
     ensures unreported { failure ≡ None → messages.new ≡ messages.old }
+    ensures kept { (base : ℕ)
+        → IsShownSince base (M.shown messages.old) (M.contents messages.old) (M.failures messages.old)
+        → IsShownSince base (M.shown messages.new) (M.contents messages.new) (M.failures messages.new) }
 {
     match failure {
         Some(failure) => show_failure(failure, messages),
@@ -113,6 +127,9 @@ fn report_last<M: Shows>(failure: Option<Failure>, messages: &mut M)
 fn show_failure<M: Shows>(failure: Failure, messages: &mut M)
     ensures reports { Reports (failure_lines (Some failure)) (M.contents messages.old) (M.contents messages.new)
         (M.failures messages.old) (M.failures messages.new) }
+    ensures kept { (base : ℕ)
+        → IsShownSince base (M.shown messages.old) (M.contents messages.old) (M.failures messages.old)
+        → IsShownSince base (M.shown messages.new) (M.contents messages.new) (M.failures messages.new) }
 {
     let line = failure.line().as_bytes();
     if !line.is_empty() {
@@ -149,6 +166,10 @@ pub fn close_unopened<W: World, O: Shows, M: Shows>(
         → LeavesMarked name.now (W.kept world) (W.kept result.world)) }
     ensures shown { result.failure ≡ None
         → AllShown O.shown O.contents M.shown M.contents W.kept W.files out.new messages.new result.world }
+    ensures shown_output { (base : ℕ) → Grew base (O.failures out.old)
+        → IsShownSince base (O.shown out.new) (O.contents out.new) (O.failures out.new) }
+    ensures shown_messages { (base : ℕ) → Grew base (M.failures messages.old)
+        → IsShownSince base (M.shown messages.new) (M.contents messages.new) (M.failures messages.new) }
 {
     let cause = match put_unopened(file, messages) {
         Ok(()) => Cause::Done,
@@ -178,6 +199,10 @@ pub fn close_mode<W: World, O: Shows, M: Shows>(
     ensures files { W.files result.world ≡ W.files world }
     ensures shown { result.failure ≡ None
         → AllShown O.shown O.contents M.shown M.contents W.kept W.files out.new messages.new result.world }
+    ensures shown_output { (base : ℕ) → Grew base (O.failures out.old)
+        → IsShownSince base (O.shown out.new) (O.contents out.new) (O.failures out.new) }
+    ensures shown_messages { (base : ℕ) → Grew base (M.failures messages.old)
+        → IsShownSince base (M.shown messages.new) (M.contents messages.new) (M.failures messages.new) }
 {
     let ending = Ending {
         status,

@@ -189,6 +189,53 @@ fn strings_of_each_length_cross_a_block(rt: HostRuntime) -> Result<(), Fail> {
     Ok(())
 }
 
+// Lengths of four digits to six: such texts are parts of their block, read again with the next one, or as they arrive.
+static LONG_LENGTHS: [(u8, usize); 7] = [
+    (b'a', 9_999),
+    (b'b', 10_000),
+    (b'c', 60_000),
+    (b'd', 32_768),
+    (b'e', 65_537),
+    (b'f', 99_999),
+    (b'g', 100_000),
+];
+
+// How many bytes of these directives the first block has.
+static CUTS: [usize; 12] = [
+    0, 4, 5, 8, 9, 10, 11, 10_007, 10_008, 12_288, 16_376, 16_380,
+];
+
+// Returns the directives of these texts.
+fn long_texts(alloc: Global) -> Result<Vec<u8>, AllocError> {
+    let mut report = Report::new(alloc);
+    for &(letter, text) in &LONG_LENGTHS {
+        report.counted(b"T1,", text);
+        report.add(b"\n");
+        report.add(&[letter]);
+        report.add(&repeated(alloc, b'x', text)?);
+        report.add(b"\n");
+    }
+    report.text()
+}
+
+// Writes these texts again after a comment, so that the first block has this many bytes of them.
+fn long_texts_later(alloc: Global, texts: &[u8], cut: usize) -> Result<Vec<u8>, AllocError> {
+    let file = joined(alloc, &[b"V1\n", texts])?;
+    let file = after_a_comment(alloc, BLOCK.saturating_sub(cut).saturating_sub(3), &file)?;
+    again(alloc, &file, 4096, file.len().saturating_add(ROOM))
+}
+
+#[test]
+fn long_texts_cross_blocks(rt: HostRuntime) -> Result<(), Fail> {
+    let texts = long_texts(rt.alloc())?;
+    for &cut in &CUTS {
+        let want = canonical(rt.alloc(), &texts, b"");
+        let got = long_texts_later(rt.alloc(), &texts, cut);
+        agrees_cut(&rt, "long texts", (4096, cut), want, got);
+    }
+    Ok(())
+}
+
 // A file, and its canonical lines, which are the same.
 const FAILING: &[u8] = b"V1\nQ1,1\n[]\nC0,0\n\nT2,3\na\n# b\nF3,3\ndnldnl\nD2,2\nzz\nD-1,0\n\n";
 

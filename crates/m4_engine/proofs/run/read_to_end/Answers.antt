@@ -2,8 +2,9 @@ use Rattle.std.proofs.Common.{rules, refl, sym, ◌∙◌, Bool}
 use Rattle.std.specs.Prelude.{Ok}
 use Rattle.m4_engine.specs.File.{after_sources}
 use Rattle.m4_engine.specs.Session.{progress_of}
+use Rattle.m4_engine.specs.WholeRun.{ending_by}
 use Rattle.m4_engine.proofs.Readers.{same_fails, close_sound}
-use Rattle.m4_engine.proofs.Whole.{early_so, late_so, well_so, sized_so}
+use Rattle.m4_engine.proofs.Whole.{early_so, late_so, well_so, sized_so, last_so, last_unused}
 use Rattle.m4_engine.proofs.Starts.{close_left}
 use Rattle.m4_engine.proofs.Closing.{Closes, closes_so, finish_closes, freeze_closes, uses_so}
 use Rattle.m4_engine.proofs.RunReached.{early_reached, late_reached, closed_reached}
@@ -25,6 +26,9 @@ pub returns-in_err-read_sources-clause-frozen : goal.returns-in_err-read_sources
 returns-in_err-read_sources-clause-frozen g c = λ ss s. record {
   sized = search rules;
 }
+
+pub returns-in_err-read_sources-clause-last : goal.returns-in_err-read_sources-clause-last
+returns-in_err-read_sources-clause-last g c = λ ss s. last_unused (ending_by 0 c.from_residual.result).cause _ _ _ _ refl
 
 pub returns-in_err-read_sources-clause-reads : goal.returns-in_err-read_sources-clause-reads
 returns-in_err-read_sources-clause-reads g c = record {
@@ -58,7 +62,7 @@ returns-in_err-closed g c =
           g.O.ByteSink.contents g.M.ByteSink.contents g.Z.ByteSink.contents g.O.ByteSink.failures g.M.ByteSink.failures g.Z.ByteSink.failures
           c.args.freezes c.read_sources.new.session c.read_sources.new.out c.read_sources.new.messages c.args.freeze_to.now
           w.freeze-closed.new.self w.freeze-closed.new.out w.freeze-closed.new.messages w.freeze-closed.new.freeze_to w.freeze-closed.result (search rules)
-          w.freeze-closed.ensures.gives w.freeze-closed.ensures.order w.freeze-closed.ensures.any_missing w.freeze-closed.ensures.write)
+          w.freeze-closed.ensures.gives w.freeze-closed.ensures.order w.freeze-closed.ensures.any_missing w.freeze-closed.ensures.write w.freeze-closed.ensures.last)
       | else-freezes w ↦ closes_so
           g.O.ByteSink.contents g.M.ByteSink.contents g.Z.ByteSink.contents g.O.ByteSink.failures g.M.ByteSink.failures g.Z.ByteSink.failures
           c.args.freezes c.read_sources.new.session c.read_sources.new.out c.read_sources.new.messages c.args.freeze_to.now
@@ -84,6 +88,11 @@ returns-in_err-closed g c =
       frozen = λ ss s. record {
         sized = search rules;
       };
+      last = λ ss s. last_so _ _ c.args.freezes c.args.session.now.limits ss
+          (after_sources c.args.session.now.limits ss (progress_of c.args.session.now)) c.args.session.now
+          c.read_sources.new.session c.if-freezes.session _ _ _ _ _ _ _ _ refl (c.in_ok-read_sources.ensures.writes ss s).goes
+          c.in_err-closed.field-0.0 c.if-freezes.closed c.from_residual-in_err-closed.result (search rules) (search rules)
+          k.writers.spared k.last;
       reads = record {
         reached = λ n. late_reached g.R.ByteSource.script c.args.sources.now
             c.read_sources.new.sources c.args.freezes c.args.session.now c.read_sources.new.session c.if-freezes.session _ _ _
@@ -120,7 +129,7 @@ returns g c =
           g.O.ByteSink.contents g.M.ByteSink.contents g.Z.ByteSink.contents g.O.ByteSink.failures g.M.ByteSink.failures g.Z.ByteSink.failures
           c.args.freezes c.read_sources.new.session c.read_sources.new.out c.read_sources.new.messages c.args.freeze_to.now
           w.freeze-closed.new.self w.freeze-closed.new.out w.freeze-closed.new.messages w.freeze-closed.new.freeze_to w.freeze-closed.result (search rules)
-          w.freeze-closed.ensures.gives w.freeze-closed.ensures.order w.freeze-closed.ensures.any_missing w.freeze-closed.ensures.write)
+          w.freeze-closed.ensures.gives w.freeze-closed.ensures.order w.freeze-closed.ensures.any_missing w.freeze-closed.ensures.write w.freeze-closed.ensures.last)
       | else-freezes w ↦ closes_so
           g.O.ByteSink.contents g.M.ByteSink.contents g.Z.ByteSink.contents g.O.ByteSink.failures g.M.ByteSink.failures g.Z.ByteSink.failures
           c.args.freezes c.read_sources.new.session c.read_sources.new.out c.read_sources.new.messages c.args.freeze_to.now
@@ -143,6 +152,7 @@ returns g c =
         sized = sized_so c.args.freezes c.args.session.now.limits ss (after_sources c.args.session.now.limits ss (progress_of c.args.session.now)) c.args.session.now c.read_sources.new.session
             c.if-freezes.session _ _ _ _ _ _ _ _ refl (c.in_ok-read_sources.ensures.writes ss s).goes k.gives;
       };
+      last = λ ss s. tt;
       reads = record {
         reached = λ n. closed_reached g.R.ByteSource.script c.args.sources.now c.read_sources.new.sources
             c.args.freezes c.args.session.now c.read_sources.new.session c.if-freezes.session _ _ _ _ _ _ n

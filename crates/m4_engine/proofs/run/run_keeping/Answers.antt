@@ -1,11 +1,11 @@
-use Rattle.std.proofs.Common.{◌≡◌, rules, refl, Some, None}
+use Rattle.std.proofs.Common.{◌≡◌, ◌∙◌, ap, rules, refl, Some, None}
 use Rattle.std.specs.Prelude.{Err}
 use Rattle.m4_state.specs.State.{IsSized}
 use Rattle.m4_engine.specs.declared.ending.Ending.{Ending}
 use Rattle.m4_engine.specs.WholeRun.{ending_by}
 use Rattle.m4_engine.specs.Start.{start_of}
 use Rattle.m4_engine.specs.Writers.{both, three}
-use Rattle.m4_engine.proofs.Whole.{left_status}
+use Rattle.m4_engine.proofs.Whole.{cause_same, last_unused, left_status}
 use Rattle.m4_engine.proofs.Starts as starts
 use Rattle.m4_engine.proofs.Readers.{none_taken_yet, all_sound, run_fails}
 use Rattle.m4_engine.proofs.RunReached.{never_passed, passed}
@@ -54,6 +54,7 @@ returns-in-Err g c =
       one_pass = λ file t. never_passed g.R.ByteSource.script c.args.sources.now c.args.options (start_of c.args.options.prefix file) _ c.match-frozen.begun c.in-Err.stop (starts.status_after c.in-Err.stop) d (search rules) ends b.begun;
       order = λ file t ss s. never_told _ c.args.options (start_of c.args.options.prefix file) ss _ refl;
       refused = λ fault e. starts.never_done c.args.sources.now c.args.options c.match-frozen.begun c.in-Err.stop (starts.status_after c.in-Err.stop) d fault _ _ _ _ (search rules) refl ends b.begun e (b.refused fault);
+      last = λ file t ss s. last_unused d.cause _ _ _ _ refl;
       spared = (search rules, starts.spares_any d.cause (three g.Z.ByteSink.contents (both g.O.ByteSink.contents g.M.ByteSink.contents c.args.out.now c.match-frozen.out c.args.messages.now c.args.messages.now) c.args.freeze_to.now c.args.freeze_to.now) refl);
     }
 
@@ -96,6 +97,10 @@ returns g c =
           c.ending.result _ _ _ _ _ (search rules) c.ending.ensures (b.gives file t)
           c.read_to_end-answer.ensures.reads.reached;
       refused = λ fault e. absurd (starts.not_refused c.read_to_end-answer.new.session _ c.read_to_end-answer.result c.ending.result fault c.ending.ensures c.read_to_end-answer.ensures.left e);
+      last = λ file t ss s. starts.begun_last c.args.options (start_of c.args.options.prefix file) ss c.in-Ok.session c.match-frozen.begun
+          (ending_by 0 c.read_to_end-answer.result).cause c.ending.result.cause _ _ _ _ _ _ _ _ _ (search rules)
+          (ap (λ (x : Ending). x.cause) c.ending.ensures ∙ cause_same _ 0 c.read_to_end-answer.result) (b.gives file t)
+          (c.read_to_end-answer.ensures.last ss s);
       spared = (
         search rules,
         starts.ended_spared _ c.read_to_end-answer.result c.ending.result

@@ -17,9 +17,9 @@ returns-in_err-put_top-in-Some-clause-err c =
 pub returns-in_ok-put_top-in-Some-clause-ok : goal.returns-in_ok-put_top-in-Some-clause-ok
 returns-in_ok-put_top-in-Some-clause-ok c =
     let es = c.args.entries.now.entries in
-    let found = c.in-Some.ensures.index in
+    let found = sym c.in-Some.is ∙ c.requires.place.index in
     let old : stack_at (in_order es) c.args.name.now ≡ c.index_mut.result.now = stack_at_place c.args.entries.now c.args.name.now c.in-Some.i c.index_mut.result.now (sym found) c.index_mut.ensures.value in
-    write_in_order c.args.entries.now c.args.name.now c.in-Some.i c.index_mut.result.now (sym found) c.index_mut.ensures.value c.in-Some.ensures.unique c.put_top.new.self
+    write_in_order c.args.entries.now c.args.name.now c.in-Some.i c.index_mut.result.now (sym found) c.index_mut.ensures.value c.requires.place.unique c.put_top.new.self
     ∙ ap (λ (xs : List Def). put byte_order c.args.name.now xs (in_order es)) (c.in_ok-put_top-in-Some.ensures.ok ∙ ap (λ (xs : List Def). but_last xs ++ c.args.def ∷ []) (sym old))
 
 pub returns-in_ok-put_top-in-Some-clause-table : goal.returns-in_ok-put_top-in-Some-clause-table
@@ -33,7 +33,7 @@ returns-in_ok-put_top-in-Some-clause-sized c =
 pub returns-in_ok-insert_in-in-None-clause-ok : goal.returns-in_ok-insert_in-in-None-clause-ok
 returns-in_ok-insert_in-in-None-clause-ok c =
     let es = c.args.entries.now.entries in
-    let none = c.in-None.ensures.index in
+    let none = sym c.in-None.is ∙ c.requires.place.index in
     let old : stack_at (in_order es) c.args.name.now ≡ [] = stack_at_no_place c.args.entries.now c.args.name.now (sym none) in
     c.in_ok-insert_in-in-None.ensures.ok ∙ ap (λ (xs : List Def). put byte_order c.args.name.now xs (in_order es)) (ap (λ (xs : List Def). but_last xs ++ c.args.def ∷ []) (sym old))
 

@@ -1,19 +1,45 @@
-use Rattle.std.proofs.Common.{◌<◌, ◌^◌, ℕ, List, length, sym, ap, subst, arith}
-use Rattle.indexmap.proofs.MapLemmas.{OnOk-map}
-use Rattle.m4_state.specs.Entries.{Entry, in_order}
-use Rattle.m4_state.specs.Table.{IsTable, IsSizedTable}
+use Rattle.std.proofs.Common.{◌≡◌, List, [], ◌∷◌, ◌++◌, sym, ap, subst, ◌∙◌, rules, arith}
+use Rattle.std.specs.FinMap.{put}
+use Rattle.m4_state.specs.declared.definition.Def.{Def}
+use Rattle.m4_state.specs.Entries.{in_order}
+use Rattle.m4_state.specs.Table.{byte_order, stack_at, IsTable, IsSizedTable}
+use Rattle.m4_state.proofs.InOrder.{stack_at_place, stack_at_no_place, write_in_order, same_in_order}
 use Rattle.m4_state.proofs.Tables.{IsTable-push, IsSizedTable-push}
 use Rattle.m4_state.proofs.entries.push_in.Goals as goal
 
--- a definition keeps the table in order
-pub returns-clause-table : goal.returns-clause-table
-returns-clause-table c =
-    let roomy = subst (λ (es : List Entry). IsTable (in_order es)) (sym c.make_room.ensures) c.requires.table in
-    OnOk-map c.push_key_in.result _ _ (λ e. subst IsTable (sym e) (IsTable-push _ c.in_ok-key.key c.args.def roomy c.requires.definition)) c.push_key_in.ensures.ok
+-- a change that was refused left the stack's definitions as they were
+pub returns-in_err-push-in-Some-clause-err : goal.returns-in_err-push-in-Some-clause-err
+returns-in_err-push-in-Some-clause-err c =
+    let kept = same_in_order c.args.entries.now.entries c.in-Some.i c.index_mut.result.now c.push.new.self c.index_mut.ensures.value c.in_err-push-in-Some.ensures.err in
+    search (rules, kept)
 
--- and sized
-pub returns-clause-sized : goal.returns-clause-sized
-returns-clause-sized c =
-    let named : length c.in_ok-key.key < 2 ^ 64 = omega (arith, ap (λ (bs : List ℕ). length bs) c.in_ok-key.ensures) in
-    let roomy = subst (λ (es : List Entry). IsSizedTable (in_order es)) (sym c.make_room.ensures) c.requires.sized in
-    OnOk-map c.push_key_in.result _ _ (λ e. subst IsSizedTable (sym e) (IsSizedTable-push _ c.in_ok-key.key c.args.def roomy named c.len-len.ensures.sized)) c.push_key_in.ensures.ok
+-- the name was there
+pub returns-in_ok-push-in-Some-clause-ok : goal.returns-in_ok-push-in-Some-clause-ok
+returns-in_ok-push-in-Some-clause-ok c =
+    let es = c.args.entries.now.entries in
+    let found = sym c.in-Some.is ∙ c.requires.place.index in
+    let old : stack_at (in_order es) c.args.name.now ≡ c.index_mut.result.now = stack_at_place c.args.entries.now c.args.name.now c.in-Some.i c.index_mut.result.now (sym found) c.index_mut.ensures.value in
+    write_in_order c.args.entries.now c.args.name.now c.in-Some.i c.index_mut.result.now (sym found) c.index_mut.ensures.value c.requires.place.unique c.push.new.self
+    ∙ ap (λ (xs : List Def). put byte_order c.args.name.now xs (in_order es)) (c.in_ok-push-in-Some.ensures.ok ∙ ap (λ (xs : List Def). xs ++ c.args.def ∷ []) (sym old))
+
+pub returns-in_ok-push-in-Some-clause-table : goal.returns-in_ok-push-in-Some-clause-table
+returns-in_ok-push-in-Some-clause-table c = subst IsTable (sym (returns-in_ok-push-in-Some-clause-ok c)) (IsTable-push _ c.args.name.now c.args.def c.requires.table c.requires.definition)
+
+pub returns-in_ok-push-in-Some-clause-sized : goal.returns-in_ok-push-in-Some-clause-sized
+returns-in_ok-push-in-Some-clause-sized c =
+    subst IsSizedTable (sym (returns-in_ok-push-in-Some-clause-ok c)) (IsSizedTable-push _ c.args.name.now c.args.def c.requires.sized (omega arith) c.len-len.ensures.sized)
+
+-- the name is new
+pub returns-in_ok-insert_in-in-None-clause-ok : goal.returns-in_ok-insert_in-in-None-clause-ok
+returns-in_ok-insert_in-in-None-clause-ok c =
+    let es = c.args.entries.now.entries in
+    let none = sym c.in-None.is ∙ c.requires.place.index in
+    let old : stack_at (in_order es) c.args.name.now ≡ [] = stack_at_no_place c.args.entries.now c.args.name.now (sym none) in
+    c.in_ok-insert_in-in-None.ensures.ok ∙ ap (λ (xs : List Def). put byte_order c.args.name.now xs (in_order es)) (ap (λ (xs : List Def). xs ++ c.args.def ∷ []) (sym old))
+
+pub returns-in_ok-insert_in-in-None-clause-table : goal.returns-in_ok-insert_in-in-None-clause-table
+returns-in_ok-insert_in-in-None-clause-table c = subst IsTable (sym (returns-in_ok-insert_in-in-None-clause-ok c)) (IsTable-push _ c.args.name.now c.args.def c.requires.table c.requires.definition)
+
+pub returns-in_ok-insert_in-in-None-clause-sized : goal.returns-in_ok-insert_in-in-None-clause-sized
+returns-in_ok-insert_in-in-None-clause-sized c =
+    subst IsSizedTable (sym (returns-in_ok-insert_in-in-None-clause-ok c)) (IsSizedTable-push _ c.args.name.now c.args.def c.requires.sized (omega arith) c.len-len.ensures.sized)

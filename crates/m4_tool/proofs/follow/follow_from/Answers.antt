@@ -34,3 +34,9 @@ returns-clause-ended g c = λ files input script ss k t e n.
     ends_as c.args.line.now.options script ss c.run_line-ran.result.ending c.close.result.ending c.close.ensures.ending
     (ends_run c.args.line.now.options script ss (unwrap_or (option_map string_bytes c.args.line.now.freeze) []) c.args.file.now c.run_line-ran.result.ending c.close.result.status c.close.result.failure _ _
     (c.run_line-ran.ensures.ran files input script ss k t e) c.close.ensures.closes n (c.run_line-ran.ensures.sized files input script ss k t e))
+
+pub returns-clause-shown_output : goal.returns-clause-shown_output
+returns-clause-shown_output g c = c.close.ensures.shown_output _ c.run_line-ran.ensures.counted.grew.0
+
+pub returns-clause-shown_messages : goal.returns-clause-shown_messages
+returns-clause-shown_messages g c = c.close.ensures.shown_messages _ c.run_line-ran.ensures.counted.grew.1

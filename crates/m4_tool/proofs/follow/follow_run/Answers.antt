@@ -6,6 +6,7 @@ use Rattle.m4_tool.specs.Line.{result_of_run, unreloaded}
 use Rattle.m4_tool.proofs.OpenedFiles.{fresh_result, thawed_at, reloads_so, missing_so}
 use Rattle.m4_tool.proofs.LineEnds.{ends_as}
 use Rattle.m4_tool.proofs.FollowedCalls.{fresh_start, missing_start, opened_start}
+use Rattle.m4_tool.proofs.Counts.{grew_none}
 use Rattle.m4_tool.proofs.follow.follow_run.Goals as goal
 
 pub returns-in-None-clause-follows : goal.returns-in-None-clause-follows
@@ -72,3 +73,9 @@ returns-in-None-open-clause-ended g c = λ files input script ss known t e n.
     let is = c.as_bytes-file.ensures.value ∙ c.as_str.ensures.value in
     missing_start files (option_map string_bytes line.reload) given script
     (ap (option_map string_bytes) c.in-Some.is ∙ ap (λ (n : List ℕ). Some n) (sym is)) (rw known.0.1 at (c.in-None-open.ensures known.0.0)) t
+
+pub returns-in-None-open-clause-shown_output : goal.returns-in-None-open-clause-shown_output
+returns-in-None-open-clause-shown_output g c = c.close_unopened.ensures.shown_output _ (grew_none _ _ refl)
+
+pub returns-in-None-open-clause-shown_messages : goal.returns-in-None-open-clause-shown_messages
+returns-in-None-open-clause-shown_messages g c = c.close_unopened.ensures.shown_messages _ (grew_none _ _ refl)

@@ -10,11 +10,11 @@ use Rattle.m4_engine.proofs.PlainRuns.{text_some}
 use Rattle.m4_engine.proofs.collect.OpenCallTokenSink.take.Goals as goal
 
 pub returns-in-Text-clause-takes : goal.returns-in-Text-clause-takes
-returns-in-Text-clause-takes c = λ s next room m first q d ahead before.
+returns-in-Text-clause-takes c = λ s next m first q d ahead before.
     let x = c.args.text.now in
     let y = drop c.args.at x in
     let t = c.in-Text in
-    let h = subst (λ (a : Lookahead). IsAhead a next s room m y) t.is ahead in
+    let h = subst (λ (a : Lookahead). IsAhead a next s m y) t.is ahead in
     list_on s m c.args.at t.all first c.args.self.now c.put_front.new.self x y before refl
     (list_one s m t.all c.args.self.now c.put_front.new.self y (inl (take (t.end - t.begin) (drop t.begin y), h.0, search rules)))
 
@@ -23,45 +23,45 @@ returns-in-Text-clause-within c =
     let y = drop c.args.at c.args.text.now in
     let t = c.in-Text in
     let r = c.requires.token in
-    let h = subst (λ (a : Lookahead). IsAhead a r.1 r.0 r.2 r.3 y) t.is r.4 in
-    let some : 0 < t.all = text_some r.0 r.3 t.all (take (t.end - t.begin) (drop t.begin y)) y h.0 in
+    let h = subst (λ (a : Lookahead). IsAhead a r.1 r.0 r.2 y) t.is r.3 in
+    let some : 0 < t.all = text_some r.0 r.2 t.all (take (t.end - t.begin) (drop t.begin y)) y h.0 in
     let fits : t.all ≤ length y = h.3 in
     let rest : length y ≡ length c.args.text.now - c.args.at = length-drop c.args.at c.args.text.now in
     let before : c.args.at ≤ length c.args.text.now = c.requires.at in
     (omega (arith, some), omega (arith, fits, rest, before))
 
 pub returns-then-role-eq4-clause-takes : goal.returns-then-role-eq4-clause-takes
-returns-then-role-eq4-clause-takes c = λ s next room m first q d ahead before.
+returns-then-role-eq4-clause-takes c = λ s next m first q d ahead before.
     let x = c.args.text.now in
     let y = drop c.args.at x in
     let n = c.text_len-len.result in
     let z = c.split_at-2.result.1.now in
     let call = c.args.self.now in
     let new = c.put_front-then-role-eq4.new.self in
-    let h = subst (λ (a : Lookahead). IsAhead a next s room m y) c.in-Byte.is ahead in
+    let h = subst (λ (a : Lookahead). IsAhead a next s m y) c.in-Byte.is ahead in
     list_on s m c.args.at _ first call new x y before refl
     (byte_and_texts s m c.in-Byte.byte n call new y z h.0 (search rules) (search rules) c.text_len-len.ensures.within
     (subst (λ (a : Delimiters). HaveRole Other (begun call) s.quotes a (take n z)) d (subst (λ (a : Delimiters). HaveRole Other (begun call) a c.args.delims.now.comments.now (take n z)) q (c.text_len-len.ensures.bytes (begun call) refl)))
     (search rules))
 
 pub returns-then-has_begun-clause-takes : goal.returns-then-has_begun-clause-takes
-returns-then-has_begun-clause-takes c = λ s next room m first q d ahead before.
+returns-then-has_begun-clause-takes c = λ s next m first q d ahead before.
     let x = c.args.text.now in
     let y = drop c.args.at x in
     let call = c.args.self.now in
     let new = c.take_byte.new.self in
-    let h = subst (λ (a : Lookahead). IsAhead a next s room m y) c.in-Byte.is ahead in
+    let h = subst (λ (a : Lookahead). IsAhead a next s m y) c.in-Byte.is ahead in
     list_on s m c.args.at 1 first call new x y before refl (byte_taken s m c.in-Byte.byte call new y h.0 (search rules))
 
 pub returns-clause-takes : goal.returns-clause-takes
-returns-clause-takes c = λ s next room m first q d ahead before.
+returns-clause-takes c = λ s next m first q d ahead before.
     let x = c.args.text.now in
     let y = drop c.args.at x in
     let n = c.spaces_len.result in
     let z = c.split_at-2.result.1.now in
     let call = c.args.self.now in
     let new = c.take_byte.new.self in
-    let h = subst (λ (a : Lookahead). IsAhead a next s room m y) c.in-Byte.is ahead in
+    let h = subst (λ (a : Lookahead). IsAhead a next s m y) c.in-Byte.is ahead in
     list_on s m c.args.at _ first call new x y before refl
     (byte_and_blanks s m c.in-Byte.byte n call new y z h.0 (search rules) (search rules) c.spaces_len.ensures.within
     (subst (λ (a : Delimiters). HaveRole Blank new s.quotes a (take n z)) d (subst (λ (a : Delimiters). HaveRole Blank new a c.args.delims.now.comments.now (take n z)) q (c.spaces_len.ensures.bytes new (search rules)))))

@@ -13,4 +13,4 @@ returns-in_ok-set_definition-in-Text c =
     let named : IsNamed c.in-Name.len false s c.args.more c.args.text.now = search rules in
     let top : top_of s name ≡ Some (Text c.in-Text.body) = search rules in
     let same = subst (λ (y : List ℕ). substituted y name [] s.quotes ≡ y) c.as_slice.ensures.value (c.is_plain.ensures c.if-is_plain.true name [] s.quotes) in
-    (named, c.if-room.true, (c.in-Text.body, top, sym same, search rules))
+    (named, (c.in-Text.body, top, sym same, search rules))

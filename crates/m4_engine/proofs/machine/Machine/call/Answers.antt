@@ -9,8 +9,8 @@ use Rattle.m4_engine.specs.Expand.{with_saved, with_value}
 use Rattle.m4_engine.proofs.Acts.{made_and_begun, called_goes, called_skips, called_exits}
 use Rattle.m4_engine.proofs.machine.Machine.call.Goals as goal
 
-pub returns-in-Some : goal.returns-in-Some
-returns-in-Some c = record {
+pub returns-in-Some-clause-steps : goal.returns-in-Some-clause-steps
+returns-in-Some-clause-steps c = record {
   moves = λ z more k o m.
       let a : Acted = record { state = c.act_on.new.state; effect = c.act_on.new.effect } in
       let plain : c.begin_argument.new.self ≡ with_made [] [] None (record c.args.self.now { state = a.state; messages = c.put_more.new.messages.items; output = c.put_more.new.output.items; saved = c.put_more.new.saved.items }) = search rules in
@@ -24,8 +24,8 @@ returns-in-Some c = record {
   made = search rules;
 }
 
-pub returns-then-skips : goal.returns-then-skips
-returns-then-skips c = record {
+pub returns-then-skips-clause-steps : goal.returns-then-skips-clause-steps
+returns-then-skips-clause-steps c = record {
   moves = λ z more k o m.
       let a : Acted = record { state = c.act_on.new.state; effect = c.act_on.new.effect } in
       let plain : c.begin_argument-then-skips.new.self ≡ with_made [] [] None (record c.args.self.now { state = a.state; messages = c.put_more.new.messages.items; output = c.put_more.new.output.items; saved = c.put_more.new.saved.items }) = search rules in
@@ -41,8 +41,8 @@ returns-then-skips c = record {
   made = search rules;
 }
 
-pub returns : goal.returns
-returns c = record {
+pub returns-clause-steps : goal.returns-clause-steps
+returns-clause-steps c = record {
   moves = λ z more k o m.
       let a : Acted = record { state = c.act_on.new.state; effect = c.act_on.new.effect } in
       let plain : c.begin_argument-2.new.self ≡ with_made [] [] None (record c.args.self.now { state = a.state; messages = c.put_more.new.messages.items; output = c.put_more.new.output.items; saved = c.put_more.new.saved.items }) = search rules in

@@ -2,10 +2,10 @@ use Rattle.std.proofs.Common.{◌≡◌, ◌<◌, ◌≤◌, ℕ, List, [], true
 use Rattle.std.proofs.lemmas.List.{nil_from_length}
 use Rattle.m4_engine.proofs.OnlyGrows.{output_stays}
 use Rattle.m4_engine.proofs.Running.{begins_so, begins_past, passed, went_on, went_past_line, fell}
-use Rattle.m4_engine.proofs.Begins.{due_none, due_all}
+use Rattle.m4_engine.proofs.Begins.{due_none, due_all, nothing_begun}
 use Rattle.m4_engine.proofs.Running.{fell_past_line, ended, needed, needs_line_after, breaks, write_breaks}
 use Rattle.m4_engine.proofs.Running.{write_breaks_in_order, lack_breaks_in_order, in_order_end, needs_line}
-use Rattle.m4_engine.proofs.Running.{line_done_by, hand_ends}
+use Rattle.m4_engine.proofs.Running.{line_done_by, hand_ends, lack_gives, lack_gives_in_order, lack_counted}
 use Rattle.m4_engine.proofs.Passing.{passes_ready}
 use Rattle.m4_engine.specs.Engine.{Engine}
 use Rattle.m4_engine.proofs.machine.Machine.expand_in_hand.Goals.{in_default-via-in-Token-1, in_default-via-in-Line+else-not-skip_in_hand}
@@ -25,19 +25,26 @@ turn-requires g c = record {
 
 -- there is no memory for the next call
 pub returns-in_default-clause-gives : goal.returns-in_default-clause-gives
-returns-in_default-clause-gives g c = breaks c.args.wanted c.args.self.now c.args.self.now c.args.input.now.pending c.in_default.input _ _ _ _ (elim c.in_default.branch [
+returns-in_default-clause-gives g c = breaks c.args.wanted c.args.self.now c.args.self.now c.args.input.now.pending c.in_default.input _ _ _ _ _ (elim c.in_default.branch [
   | in_default-via-in-Token-1 w ↦ begins_so c.args.self.now c.args.input.now c.in_default.input c.args.wanted _ _ (search rules) (search rules) c.requires.ready c.requires.flushed
   | in_default-via-in-Line+else-not-skip_in_hand w ↦ begins_past c.args.self.now c.args.input.now w.skip_in_hand.new.self c.in_default.input
       c.args.wanted _ _ (search rules) (search rules) c.requires.ready c.requires.flushed
       (line_done_by c.args.input.now w.skip_in_hand.new.self w.skip_in_hand.result true
       (search rules) w.skip_in_hand.ensures)
-])
+]) (nothing_begun _ _)
 
+-- a pass or a turn had no memory: what was buffered before it was given out
 pub returns-in_default-pass_plain-clause-gives : goal.returns-in_default-pass_plain-clause-gives
-returns-in_default-pass_plain-clause-gives g c = breaks c.args.wanted c.args.self.now c.turns.self c.args.input.now.pending c.turns.input _ _ _ _ c.turns.invariant.runs
+returns-in_default-pass_plain-clause-gives g c = lack_gives c.args.wanted c.args.self.now c.turns.self c.pass_plain.new.self
+    c.pass_plain.new.self c.args.input.now c.turns.input c.pass_plain.new.input c.len-made.result _ _ _ _ _ c.give_out.result
+    c.turns.invariant.runs (search rules) c.in_default-pass_plain.ensures.kept c.give_out.ensures.gives
 
 pub returns-in_default-turn-clause-gives : goal.returns-in_default-turn-clause-gives
-returns-in_default-turn-clause-gives g c = breaks c.args.wanted c.args.self.now c.turns.self c.args.input.now.pending c.turns.input _ _ _ _ c.turns.invariant.runs
+returns-in_default-turn-clause-gives g c =
+    let r = passed c.args.wanted c.args.self.now c.turns.self c.pass_plain.new.self c.args.input.now.pending c.turns.input c.pass_plain.new.input _ _ _ _ c.turns.invariant.runs c.in-Ok-pass_plain.ensures.passes in
+    lack_gives c.args.wanted c.args.self.now c.pass_plain.new.self c.turn.new.self c.turn.new.self
+    c.args.input.now c.pass_plain.new.input c.turn.new.input c.len-earlier.result _ _ _ _ _ c.give_out-in_default-turn.result
+    r (search rules) c.in_default-turn.ensures.kept c.give_out-in_default-turn.ensures.gives
 
 pub returns-clause-gives : goal.returns-clause-gives
 returns-clause-gives g c = needs_line c.args.self.now c.args.input.now c.skip_in_hand.new.self c.args.wanted
@@ -64,12 +71,12 @@ turns-init g c = record {
 pub returns-in-Err-clause-gives : goal.returns-in-Err-clause-gives
 returns-in-Err-clause-gives g c =
     let r = passed c.args.wanted c.args.self.now c.turns.self c.pass_plain.new.self c.args.input.now.pending c.turns.input c.pass_plain.new.input _ _ _ _ c.turns.invariant.runs c.in-Ok-pass_plain.ensures.passes in
-    write_breaks c.args.wanted c.args.self.now c.pass_plain.new.self c.turn.new.self c.args.input.now.pending c.pass_plain.new.input c.turn.new.input c.in-Ok-turn.turned _ _ _ _ _ _ r c.in-Ok-turn.ensures.moves c.in-Ok-turn.ensures.made c.in-Err.ensures.begun
+    write_breaks c.args.wanted c.args.self.now c.pass_plain.new.self c.turn.new.self c.args.input.now.pending c.pass_plain.new.input c.turn.new.input c.in-Ok-turn.turned _ _ _ _ _ _ r c.in-Ok-turn.ensures.turns.moves c.in-Ok-turn.ensures.turns.made c.in-Err.ensures.begun
 
 pub turns-smaller-in-turns : goal.turns-smaller-in-turns
 turns-smaller-in-turns g c = fell c.turns.self c.pass_plain.new.self c.turn.new.self
     c.turn.new.self c.turns.input c.pass_plain.new.input c.turn.new.input _ _ _ _ c.in-Ok-turn.turned
-    c.in-Ok-pass_plain.ensures.passes c.in-Ok-turn.ensures.moves c.in-Ok-turn.ensures.ready c.in-GoesOn.is
+    c.in-Ok-pass_plain.ensures.passes c.in-Ok-turn.ensures.turns.moves c.in-Ok-turn.ensures.turns.ready c.in-GoesOn.is
     (due_none c.turn.new.self (g.O.ByteSink.contents c.turns.out) (g.M.ByteSink.contents c.turns.messages))
 
 pub turns-preserved-in-turns : goal.turns-preserved-in-turns
@@ -78,7 +85,7 @@ turns-preserved-in-turns g c =
     record {
       runs = went_on c.args.wanted c.args.self.now c.pass_plain.new.self c.turn.new.self c.turn.new.self
           c.args.input.now.pending c.pass_plain.new.input c.turn.new.input _ _ _ _ _ _ c.in-Ok-turn.turned r
-          c.in-Ok-turn.ensures.moves c.in-Ok-turn.ensures.ready c.in-GoesOn.is c.in-Ok-turn.ensures.limits
+          c.in-Ok-turn.ensures.turns.moves c.in-Ok-turn.ensures.turns.ready c.in-GoesOn.is c.in-Ok-turn.ensures.turns.limits
           (due_none c.turn.new.self (g.O.ByteSink.contents c.turns.out) (g.M.ByteSink.contents c.turns.messages));
       quiet = nil_from_length c.turn.new.self.messages (search rules);
       few = search rules;
@@ -89,7 +96,7 @@ turns-preserved-in-turns g c =
 pub turns-smaller-in-GoesOn-turned : goal.turns-smaller-in-GoesOn-turned
 turns-smaller-in-GoesOn-turned g c = fell c.turns.self c.pass_plain.new.self c.turn.new.self
     c.flush.new.self c.turns.input c.pass_plain.new.input c.turn.new.input _ _ _ _ c.in-Ok-turn.turned
-    c.in-Ok-pass_plain.ensures.passes c.in-Ok-turn.ensures.moves c.in-Ok-turn.ensures.ready c.in-GoesOn-turned.is
+    c.in-Ok-pass_plain.ensures.passes c.in-Ok-turn.ensures.turns.moves c.in-Ok-turn.ensures.turns.ready c.in-GoesOn-turned.is
     (due_all c.turn.new.self c.flush.new.self _ _ _ _ c.in_default-flush.ensures.engine c.in_default-flush.ensures.output c.in_default-flush.ensures.messages)
 
 pub turns-preserved-in-GoesOn-turned : goal.turns-preserved-in-GoesOn-turned
@@ -98,7 +105,7 @@ turns-preserved-in-GoesOn-turned g c =
     record {
       runs = went_on c.args.wanted c.args.self.now c.pass_plain.new.self c.turn.new.self c.flush.new.self
           c.args.input.now.pending c.pass_plain.new.input c.turn.new.input _ _ _ _ _ _ c.in-Ok-turn.turned r
-          c.in-Ok-turn.ensures.moves c.in-Ok-turn.ensures.ready c.in-GoesOn-turned.is c.in-Ok-turn.ensures.limits
+          c.in-Ok-turn.ensures.turns.moves c.in-Ok-turn.ensures.turns.ready c.in-GoesOn-turned.is c.in-Ok-turn.ensures.turns.limits
           (due_all c.turn.new.self c.flush.new.self _ _ _ _ c.in_default-flush.ensures.engine c.in_default-flush.ensures.output c.in_default-flush.ensures.messages);
       quiet = ap (λ (d : Engine). d.messages) c.in_default-flush.ensures.engine;
       few = few_left _ (ap (λ (d : Engine). d.output) c.in_default-flush.ensures.engine);
@@ -109,7 +116,7 @@ turns-preserved-in-GoesOn-turned g c =
 pub flush-requires : goal.flush-requires
 flush-requires g c =
     let held : c.len-earlier.result ≡ length c.pass_plain.new.self.output = search rules in
-    let grows : length c.pass_plain.new.self.output ≤ length c.turn.new.self.output = output_stays c.pass_plain.new.self c.turn.new.self c.pass_plain.new.input c.turn.new.input c.in-Ok-turn.turned c.in-Ok-turn.ensures.moves c.in-Ok-turn.ensures.made in
+    let grows : length c.pass_plain.new.self.output ≤ length c.turn.new.self.output = output_stays c.pass_plain.new.self c.turn.new.self c.pass_plain.new.input c.turn.new.input c.in-Ok-turn.turned c.in-Ok-turn.ensures.turns.moves c.in-Ok-turn.ensures.turns.made in
     omega arith
 
 pub returns-then-not-skip_in_hand-2-clause-gives : goal.returns-then-not-skip_in_hand-2-clause-gives
@@ -117,8 +124,8 @@ returns-then-not-skip_in_hand-2-clause-gives g c =
     let r = passed c.args.wanted c.args.self.now c.turns.self c.pass_plain.new.self c.args.input.now.pending c.turns.input c.pass_plain.new.input _ _ _ _ c.turns.invariant.runs c.in-Ok-pass_plain.ensures.passes in
     needs_line_after c.args.wanted c.args.self.now c.pass_plain.new.self c.turn.new.self c.flush.new.self
     c.args.input.now.pending c.args.input.now c.pass_plain.new.input c.turn.new.input c.skip_in_hand-in-SkipsLine.new.self _ _
-    _ _ _ _ c.in-Ok-turn.turned refl r c.in-Ok-turn.ensures.moves c.in-Ok-turn.ensures.ready c.in-SkipsLine.is
-    c.in-Ok-turn.ensures.limits c.in_default-flush.ensures.engine c.in_default-flush.ensures.output
+    _ _ _ _ c.in-Ok-turn.turned refl r c.in-Ok-turn.ensures.turns.moves c.in-Ok-turn.ensures.turns.ready c.in-SkipsLine.is
+    c.in-Ok-turn.ensures.turns.limits c.in_default-flush.ensures.engine c.in_default-flush.ensures.output
     c.in_default-flush.ensures.messages
     (line_done_by c.turn.new.input c.skip_in_hand-in-SkipsLine.new.self c.skip_in_hand-in-SkipsLine.result false (search rules)
     c.skip_in_hand-in-SkipsLine.ensures)
@@ -126,7 +133,7 @@ returns-then-not-skip_in_hand-2-clause-gives g c =
 pub turns-smaller : goal.turns-smaller
 turns-smaller g c = fell_past_line c.turns.self c.pass_plain.new.self c.turn.new.self c.flush.new.self c.turns.input
     c.pass_plain.new.input c.turn.new.input c.skip_in_hand-in-SkipsLine.new.self _ _ _ _ c.in-Ok-turn.turned c.in-Ok-pass_plain.ensures.passes
-    c.in-Ok-turn.ensures.moves c.in-Ok-turn.ensures.ready c.in-SkipsLine.is
+    c.in-Ok-turn.ensures.turns.moves c.in-Ok-turn.ensures.turns.ready c.in-SkipsLine.is
     (due_all c.turn.new.self c.flush.new.self _ _ _ _ c.in_default-flush.ensures.engine
     c.in_default-flush.ensures.output c.in_default-flush.ensures.messages)
     (line_done_by c.turn.new.input c.skip_in_hand-in-SkipsLine.new.self c.skip_in_hand-in-SkipsLine.result true (search rules)
@@ -138,8 +145,8 @@ turns-preserved g c =
     record {
       runs = went_past_line c.args.wanted c.args.self.now c.pass_plain.new.self c.turn.new.self c.flush.new.self
           c.args.input.now.pending c.pass_plain.new.input c.turn.new.input c.skip_in_hand-in-SkipsLine.new.self _ _ _ _ _ _
-          c.in-Ok-turn.turned r c.in-Ok-turn.ensures.moves c.in-Ok-turn.ensures.ready c.in-SkipsLine.is
-          c.in-Ok-turn.ensures.limits
+          c.in-Ok-turn.turned r c.in-Ok-turn.ensures.turns.moves c.in-Ok-turn.ensures.turns.ready c.in-SkipsLine.is
+          c.in-Ok-turn.ensures.turns.limits
           (due_all c.turn.new.self c.flush.new.self _ _ _ _ c.in_default-flush.ensures.engine
           c.in_default-flush.ensures.output c.in_default-flush.ensures.messages)
           (line_done_by c.turn.new.input c.skip_in_hand-in-SkipsLine.new.self c.skip_in_hand-in-SkipsLine.result true (search rules)
@@ -155,7 +162,7 @@ returns-in-NeedsMore-clause-gives g c =
     let r = passed c.args.wanted c.args.self.now c.turns.self c.pass_plain.new.self c.args.input.now.pending c.turns.input c.pass_plain.new.input _ _ _ _ c.turns.invariant.runs c.in-Ok-pass_plain.ensures.passes in
     needed c.args.wanted c.args.self.now c.pass_plain.new.self c.turn.new.self c.flush.new.self
     c.args.input.now.pending c.args.input.now c.pass_plain.new.input c.turn.new.input _ _ _ _ _ _
-    c.in-Ok-turn.turned refl r c.in-Ok-turn.ensures.made c.in-NeedsMore.is c.in_default-flush.ensures.engine
+    c.in-Ok-turn.turned refl r c.in-Ok-turn.ensures.turns.made c.in-NeedsMore.is c.in_default-flush.ensures.engine
     c.in_default-flush.ensures.output c.in_default-flush.ensures.messages
 
 pub returns-in-Ends-clause-gives : goal.returns-in-Ends-clause-gives
@@ -164,32 +171,47 @@ returns-in-Ends-clause-gives g c =
     hand_ends c.args.wanted c.args.self.now c.flush.new.self c.args.input.now c.turn.new.input _ c.in-Ends.end _ c.cause.ensures
     (ended c.args.wanted c.args.self.now c.pass_plain.new.self c.turn.new.self c.flush.new.self
     c.args.input.now.pending c.turn.new.input.pending c.pass_plain.new.input _ _ _ _ _ _ c.in-Ok-turn.turned
-    c.in-Ends.end r c.in-Ok-turn.ensures.moves c.in-Ends.is c.in_default-flush.ensures.engine
-    c.in-Ok-turn.ensures.limits c.in_default-flush.ensures.output c.in_default-flush.ensures.messages)
+    c.in-Ends.end r c.in-Ok-turn.ensures.turns.moves c.in-Ends.is c.in_default-flush.ensures.engine
+    c.in-Ok-turn.ensures.turns.limits c.in_default-flush.ensures.output c.in_default-flush.ensures.messages)
 
 pub returns-in-Err-clause-order : goal.returns-in-Err-clause-order
 returns-in-Err-clause-order g c =
     let r = passed c.args.wanted c.args.self.now c.turns.self c.pass_plain.new.self c.args.input.now.pending c.turns.input c.pass_plain.new.input _ _ _ _ c.turns.invariant.runs c.in-Ok-pass_plain.ensures.passes in
     write_breaks_in_order c.args.wanted c.args.self.now c.pass_plain.new.self c.turn.new.self c.args.input.now.pending
     c.pass_plain.new.input c.turn.new.input c.in-Ok-turn.turned c.len-earlier.result _ _ _ _ _ _ r
-    c.in-Ok-turn.ensures.moves c.in-Ok-turn.ensures.made (search rules) c.in-Err.ensures.order
+    c.in-Ok-turn.ensures.turns.moves c.in-Ok-turn.ensures.turns.made (search rules) c.in-Err.ensures.order
     c.in-Err.ensures.begun
 
 pub returns-in-Ends-clause-order : goal.returns-in-Ends-clause-order
 returns-in-Ends-clause-order g c = rw c.cause.ensures (in_order_end c.args.wanted c.args.self.now c.args.input.now.pending _ c.in-Ends.end)
 
--- an allocation failed: nothing was written since the last flush
+-- there was no memory for the next call, and nothing was buffered
 pub returns-in_default-clause-order : goal.returns-in_default-clause-order
-returns-in_default-clause-order g c = lack_breaks_in_order c.args.wanted c.args.self.now c.args.self.now c.args.input.now.pending c.in_default.input _ _ _ _ (elim c.in_default.branch [
+returns-in_default-clause-order g c = lack_breaks_in_order c.args.wanted c.args.self.now c.args.self.now c.args.input.now.pending c.in_default.input _ _ _ _ _ (elim c.in_default.branch [
   | in_default-via-in-Token-1 w ↦ begins_so c.args.self.now c.args.input.now c.in_default.input c.args.wanted _ _ (search rules) (search rules) c.requires.ready c.requires.flushed
   | in_default-via-in-Line+else-not-skip_in_hand w ↦ begins_past c.args.self.now c.args.input.now w.skip_in_hand.new.self c.in_default.input
       c.args.wanted _ _ (search rules) (search rules) c.requires.ready c.requires.flushed
       (line_done_by c.args.input.now w.skip_in_hand.new.self w.skip_in_hand.result true
       (search rules) w.skip_in_hand.ensures)
-])
+]) (nothing_begun _ _)
 
 pub returns-in_default-pass_plain-clause-order : goal.returns-in_default-pass_plain-clause-order
-returns-in_default-pass_plain-clause-order g c = lack_breaks_in_order c.args.wanted c.args.self.now c.turns.self c.args.input.now.pending c.turns.input _ _ _ _ c.turns.invariant.runs
+returns-in_default-pass_plain-clause-order g c = lack_gives_in_order c.args.wanted c.args.self.now c.turns.self
+    c.pass_plain.new.self c.args.input.now.pending c.turns.input c.len-made.result _ _ _ _ _ c.give_out.result
+    c.turns.invariant.runs (search rules) c.in_default-pass_plain.ensures.kept c.give_out.ensures.gives
 
 pub returns-in_default-turn-clause-order : goal.returns-in_default-turn-clause-order
-returns-in_default-turn-clause-order g c = lack_breaks_in_order c.args.wanted c.args.self.now c.turns.self c.args.input.now.pending c.turns.input _ _ _ _ c.turns.invariant.runs
+returns-in_default-turn-clause-order g c =
+    let r = passed c.args.wanted c.args.self.now c.turns.self c.pass_plain.new.self c.args.input.now.pending c.turns.input c.pass_plain.new.input _ _ _ _ c.turns.invariant.runs c.in-Ok-pass_plain.ensures.passes in
+    lack_gives_in_order c.args.wanted c.args.self.now c.pass_plain.new.self c.turn.new.self c.args.input.now.pending
+    c.pass_plain.new.input c.len-earlier.result _ _ _ _ _ c.give_out-in_default-turn.result
+    r (search rules) c.in_default-turn.ensures.kept c.give_out-in_default-turn.ensures.gives
+
+pub returns-in_default-pass_plain-clause-counted : goal.returns-in_default-pass_plain-clause-counted
+returns-in_default-pass_plain-clause-counted g c = lack_counted _ _ _ c.give_out.result _ _ _ _ _ c.give_out.ensures.gives
+    c.give_out.ensures.counted c.turns.invariant.out c.turns.invariant.reported
+
+pub returns-in_default-turn-clause-counted : goal.returns-in_default-turn-clause-counted
+returns-in_default-turn-clause-counted g c = lack_counted _ _ _ c.give_out-in_default-turn.result _ _ _ _ _
+    c.give_out-in_default-turn.ensures.gives c.give_out-in_default-turn.ensures.counted c.turns.invariant.out
+    c.turns.invariant.reported

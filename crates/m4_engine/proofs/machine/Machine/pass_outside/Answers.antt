@@ -11,8 +11,8 @@ use Rattle.m4_engine.proofs.PlainRuns.{text_some}
 use Rattle.m4_engine.proofs.machine.Machine.pass_outside.Goals as goal
 
 -- a token that is text was put after them
-pub returns-in_ok-put_text-in-Text : goal.returns-in_ok-put_text-in-Text
-returns-in_ok-put_text-in-Text c =
+pub returns-in_ok-put_text-in-Text-clause-passes : goal.returns-in_ok-put_text-in-Text-clause-passes
+returns-in_ok-put_text-in-Text-clause-passes c =
     let old = c.args.self.now in
     let next = c.pass_tokens.new.next in
     let k = c.in_ok-len.len in
@@ -23,13 +23,13 @@ returns-in_ok-put_text-in-Text c =
     let mid = c.put_outside.new.self in
     let part : List ℕ = take (t.end - t.begin) (drop t.begin (drop k x)) in
     let same : c.self.inside.state ≡ old.state = ap (λ (e : Engine). e.state) c.self.view_is in
-    let put : mid ≡ put_in [] (take k x) old = c.in_ok-put_outside.ensures ∙ ap (λ (y : List ℕ). put_in [] y old) c.split_at.ensures.front in
-    let h : IsAhead a next old.state c.args.room more (drop k x) = subst (λ (s : State). IsAhead a next s c.args.room more (drop k x)) same (subst (λ (v : Lookahead). IsAhead v next c.self.inside.state c.args.room more (drop k x)) t.is c.in_ok-len.ensures.after) in
+    let put : mid ≡ put_in [] (take k x) old = c.in_ok-put_outside.ensures.engine ∙ ap (λ (y : List ℕ). put_in [] y old) c.split_at.ensures.front in
+    let h : IsAhead a next old.state more (drop k x) = subst (λ (s : State). IsAhead a next s more (drop k x)) same (subst (λ (v : Lookahead). IsAhead v next c.self.inside.state more (drop k x)) t.is c.in_ok-len.ensures.after) in
     let takes : IsPlainRun old.state more k x = subst (λ (s : State). IsPlainRun s more k x) same c.in_ok-len.ensures.takes in
     let after : mid.open_calls ≡ [] = ap (λ (e : Engine). e.open_calls) put ∙ c.requires.outside in
     let text : c.split_at-in-Text-2.result.0.now ≡ part = search rules in
     let new : c.put_text.new.self ≡ put_in [] part (put_in [] (take k x) old) =
-    c.in_ok-put_text-in-Text.ensures
+    c.in_ok-put_text-in-Text.ensures.engine
     ∙ ap (λ (cs : List Call). put_in cs c.split_at-in-Text-2.result.0.now mid) after
     ∙ ap (λ (y : List ℕ). put_in [] y mid) text
     ∙ ap (put_in [] part) put in

@@ -10,8 +10,8 @@ use Rattle.m4_engine.proofs.FrontRuns.{front_fits, part_in_front}
 use Rattle.m4_engine.proofs.Turning.{text_taken}
 use Rattle.m4_engine.proofs.machine.Machine.take_text.Goals as goal
 
-pub returns : goal.returns
-returns c =
+pub returns-clause-turns : goal.returns-clause-turns
+returns-clause-turns c =
     let e = c.args.self.now in
     let i = c.args.input.now in
     let p = i.pending in
@@ -30,4 +30,4 @@ returns c =
     let part : c.split_at-2.result.0.now ≡ take (end - begin) (drop begin x) = search rules in
     let same : take (end - begin) (drop begin (text_of p)) ≡ take (end - begin) (drop begin x) = part_in_front p (others || p.may_follow) begin end x there a.1 fits in
     text_taken e c.put_text.new.self c.args.all (take (end - begin) (drop begin (text_of p))) i c.consume.new.self c.requires.ready h.0 a.0 c.consume.ensures
-    (c.in_ok-put_text.ensures ∙ ap (λ (y : List ℕ). with_text y e) (part ∙ sym same))
+    (c.in_ok-put_text.ensures.engine ∙ ap (λ (y : List ℕ). with_text y e) (part ∙ sym same))

@@ -13,22 +13,23 @@ use Rattle.m4_engine.specs.declared.turned.Turned.TheVariants as turns
 use Rattle.m4_engine.specs.declared.lookahead.Lookahead.{Lookahead}
 use Rattle.m4_engine.specs.Engine.{Engine, with_made}
 use Rattle.m4_engine.specs.Passes.{IsLookahead}
+use Rattle.m4_engine.proofs.Fronts.{at_error, front_same}
 use Rattle.m4_engine.proofs.Seen.{room_allows, list_there, expansion_moves, line_skips}
 use Rattle.m4_engine.proofs.Turning.{found_steps_at, end_turn, broken_turn, undecided_turn}
 use Rattle.m4_engine.proofs.machine.Machine.turn.Goals as goal
 
-pub returns-in-Byte : goal.returns-in-Byte
-returns-in-Byte c =
+pub returns-in-Byte-clause-turns : goal.returns-in-Byte-clause-turns
+returns-in-Byte-clause-turns c =
     let e = c.args.self.now in
     let d = c.args.next.now in
     let h = subst (λ (v : Lookahead). IsLookahead v d e c.args.input.now.pending) c.in-Byte.is c.requires.lookahead in
-    found_steps_at e c.take_byte.new.self (Byte c.in-Byte.byte) 1 c.args.input.now c.consume.new.self c.take_byte.new.input c.take_byte.result h.0 h.1.0 c.consume.ensures c.take_byte.ensures.moves c.take_byte.ensures
+    found_steps_at e c.take_byte.new.self (Byte c.in-Byte.byte) 1 c.args.input.now c.consume.new.self c.take_byte.new.input c.take_byte.result h.0 h.1.0 c.consume.ensures c.take_byte.ensures.steps.moves c.take_byte.ensures.steps
 
 text_same : (x y : List ℕ) → Text x ≡ Text y → x ≡ y
 text_same x y e = cc
 
-pub returns-in_ok-push_text-in-Expansion : goal.returns-in_ok-push_text-in-Expansion
-returns-in_ok-push_text-in-Expansion c =
+pub returns-in_ok-push_text-in-Expansion-clause-turns : goal.returns-in_ok-push_text-in-Expansion-clause-turns
+returns-in_ok-push_text-in-Expansion-clause-turns c =
     let e = c.args.self.now in
     let d = c.args.next.now in
     let p = c.args.input.now.pending in
@@ -40,20 +41,20 @@ returns-in_ok-push_text-in-Expansion c =
     let counted = c.count.new.self in
     let new = c.begin_argument.new.self in
     let h = subst (λ (v : Lookahead). IsLookahead v d e p) c.in-Expansion.is c.requires.lookahead in
-    let text : List ℕ = h.1.2.0 in
-    let same : c.in-Text-definition.text ≡ text = text_same _ _ (sym c.in-Text-definition.is ∙ c.definition.ensures.value ∙ h.1.2.3) in
+    let text : List ℕ = h.1.1.0 in
+    let same : c.in-Text-definition.text ≡ text = text_same _ _ (sym c.in-Text-definition.is ∙ c.definition.ensures.value ∙ h.1.1.3) in
     let rest : q.definition ≡ None = ap (λ (i : Held). (i.pending).definition) c.consume-in-Expansion.ensures in
     let list : paren_at e.state.quotes e.state.comments q ≡ answer_of false = list_there e.state.quotes e.state.comments p q n (answer_of false) (ap (λ (i : Held). i.pending) c.consume-in-Expansion.ensures) (h.1.0).list in
-    let room = room_allows e h.1.1 in
+    let room = room_allows e (search rules) in
     let made : new ≡ with_made [] [] None counted = c.begin_argument.ensures in
     found_steps_at e new (Name name) n c.args.input.now k c.push_text.new.input (Ok turns.GoesOn) h.0 (h.1.0).scanned c.consume-in-Expansion.ensures
-    (expansion_moves e new d name p q r (Ok turns.GoesOn) rest list h.1.2
+    (expansion_moves e new d name p q r (Ok turns.GoesOn) rest list h.1.1
     (expanded_goes q.may_follow e counted new text (λ z more. longer z more q) r (Ok turns.GoesOn) room.0 room.1 c.count.ensures
     (λ a x d g. text_goes q.may_follow counted new a x text q r d g made (subst (λ (x : List ℕ). Pushes q r (Some (pushes.Text x))) same c.in_ok-push_text-in-Expansion.ensures.pushes))))
     {to = λ t. Unit {0}} (record { moves = tt; ready = c.in_ok-push_text-in-Expansion.ensures.stays; limits = search rules; made = tt })
 
-pub returns-in-LineSkip : goal.returns-in-LineSkip
-returns-in-LineSkip c =
+pub returns-else-not-allows_call-2-clause-turns : goal.returns-else-not-allows_call-2-clause-turns
+returns-else-not-allows_call-2-clause-turns c =
     let e = c.args.self.now in
     let d = c.args.next.now in
     let p = c.args.input.now.pending in
@@ -64,9 +65,9 @@ returns-in-LineSkip c =
     let h = subst (λ (v : Lookahead). IsLookahead v d e p) c.in-LineSkip.is c.requires.lookahead in
     let rest : q.definition ≡ None = ap (λ (i : Held). (i.pending).definition) c.consume-in-LineSkip.ensures in
     let list : paren_at e.state.quotes e.state.comments q ≡ answer_of false = list_there e.state.quotes e.state.comments p q n (answer_of false) (ap (λ (i : Held). i.pending) c.consume-in-LineSkip.ensures) (h.1.0).list in
-    let room = room_allows e h.1.1 in
+    let room = room_allows e (search rules) in
     found_steps_at e c.begin_argument-in-LineSkip.new.self (Name name) n c.args.input.now k k (Ok turns.SkipsLine) h.0 (h.1.0).scanned c.consume-in-LineSkip.ensures
-    (line_skips e c.begin_argument-in-LineSkip.new.self name p q rest list room.0 room.1 (c.begin_argument-in-LineSkip.ensures ∙ ap (λ (x : Engine). with_made [] [] None x) c.count-in-LineSkip.ensures) h.1.2)
+    (line_skips e c.begin_argument-in-LineSkip.new.self name p q rest list room.0 room.1 (c.begin_argument-in-LineSkip.ensures ∙ ap (λ (x : Engine). with_made [] [] None x) c.count-in-LineSkip.ensures) h.1.1)
     {to = λ t. Unit {0}} (record { moves = tt; ready = search rules; limits = search rules; made = tt })
 
 -- a name has no newline
@@ -98,27 +99,32 @@ begin_call-requires-in-List-clause-named c = (subst (λ (v : Lookahead). IsLooka
 pub begin_call-requires-in-List-clause-called : goal.begin_call-requires-in-List-clause-called
 begin_call-requires-in-List-clause-called c = (subst (λ (v : Lookahead). IsLookahead v c.args.next.now c.args.self.now c.args.input.now.pending) c.in-List.is c.requires.lookahead).1.1
 
-pub returns-in-Undecided : goal.returns-in-Undecided
-returns-in-Undecided c =
+pub returns-in-Undecided-clause-turns : goal.returns-in-Undecided-clause-turns
+returns-in-Undecided-clause-turns c =
     let e = c.args.self.now in
     let d = c.args.next.now in
     let h = subst (λ (v : Lookahead). IsLookahead v d e c.args.input.now.pending) c.in-Undecided.is c.requires.lookahead in
     undecided_turn e c.args.input.now c.requires.ready h.0 h.1
 
-pub returns-in-End : goal.returns-in-End
-returns-in-End c =
+pub returns-in-End-clause-turns : goal.returns-in-End-clause-turns
+returns-in-End-clause-turns c =
     let e = c.args.self.now in
     let d = c.args.next.now in
     let h = subst (λ (v : Lookahead). IsLookahead v d e c.args.input.now.pending) c.in-End.is c.requires.lookahead in
-    end_turn e c.take_end.new.self 0 c.args.input.now c.take_end.result c.requires.ready h.0 h.1 c.take_end.ensures
+    end_turn e c.take_end.new.self 0 c.args.input.now c.take_end.result c.requires.ready h.0 h.1 c.take_end.ensures.makes
 
-pub returns-in-Unended : goal.returns-in-Unended
-returns-in-Unended c =
+pub returns-in-Unended-clause-turns : goal.returns-in-Unended-clause-turns
+returns-in-Unended-clause-turns c =
     let e = c.args.self.now in
     let d = c.args.next.now in
     let i = c.args.input.now in
     let h = subst (λ (v : Lookahead). IsLookahead v d e i.pending) c.in-Unended.is c.requires.lookahead in
-    broken_turn e c.take_unended.new.self c.in-Unended.what c.line.result i c.take_unended.result c.requires.ready h.0 h.1 c.line.ensures c.take_unended.ensures
+    broken_turn e c.take_unended.new.self c.in-Unended.what c.line.result i c.take_unended.result c.requires.ready h.0 h.1 c.line.ensures c.take_unended.ensures.makes
 
 pub take_text-requires-clause-lookahead : goal.take_text-requires-clause-lookahead
 take_text-requires-clause-lookahead c = (c.args.next.now, search rules)
+
+-- there is no memory for the text: the call was counted
+pub returns-in_err-push_text-in-Expansion-clause-kept : goal.returns-in_err-push_text-in-Expansion-clause-kept
+returns-in_err-push_text-in-Expansion-clause-kept c = at_error c.from_residual.result
+    (front_same _ _ (ap (λ (d : Engine). d.output) c.count.ensures))

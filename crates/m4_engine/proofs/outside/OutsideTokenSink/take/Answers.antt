@@ -7,14 +7,14 @@ use Rattle.m4_engine.proofs.outside.OutsideTokenSink.take.Goals as goal
 
 pub returns-in-Text-eq0-default-default-clause-takes :
     goal.returns-in-Text-eq0-default-default-clause-takes
-returns-in-Text-eq0-default-default-clause-takes c = λ s next room m first q d ahead before.
+returns-in-Text-eq0-default-default-clause-takes c = λ s next m first q d ahead before.
     let x = c.args.text.now in
     let at = c.args.at in
     let y = drop at x in
     let end = c.in-Text-eq0-default-default.end in
     let all = c.in-Text-eq0-default-default.all in
     let is : c.args.token ≡ aheads.Text 0 end all = search rules in
-    let h : IsAhead (aheads.Text 0 end all) next s room m y = subst (λ (a : Lookahead). IsAhead a next s room m y) is ahead in
+    let h : IsAhead (aheads.Text 0 end all) next s m y = subst (λ (a : Lookahead). IsAhead a next s m y) is ahead in
     let whole : end - 0 ≡ all = omega (arith, c.if-end-all.true) in
     c.with_space.ensures.plain s m
     (plain_on s m at all x y before refl (plain_text s m all y (take (end - 0) (drop 0 y)) h.0 (ap (λ (j : ℕ). take j y) whole)))
@@ -28,14 +28,14 @@ returns-in-Text-eq0-default-default-clause-within c =
     let all = c.in-Text-eq0-default-default.all in
     let r = c.requires.token in
     let is : c.args.token ≡ aheads.Text 0 end all = search rules in
-    let h : IsAhead (aheads.Text 0 end all) r.1 r.0 r.2 r.3 y = subst (λ (a : Lookahead). IsAhead a r.1 r.0 r.2 r.3 y) is r.4 in
-    let some : 0 < all = text_some r.0 r.3 all (take (end - 0) (drop 0 y)) y h.0 in
+    let h : IsAhead (aheads.Text 0 end all) r.1 r.0 r.2 y = subst (λ (a : Lookahead). IsAhead a r.1 r.0 r.2 y) is r.3 in
+    let some : 0 < all = text_some r.0 r.2 all (take (end - 0) (drop 0 y)) y h.0 in
     let more : c.args.at + all ≤ c.with_space.result = c.with_space.ensures.more in
     (omega (arith, some, more), c.with_space.ensures.within)
 
 pub returns-in-Byte-clause-takes : goal.returns-in-Byte-clause-takes
-returns-in-Byte-clause-takes c = λ s next room m first q d ahead before.
+returns-in-Byte-clause-takes c = λ s next m first q d ahead before.
     let x = c.args.text.now in
     let y = drop c.args.at x in
-    let h = subst (λ (a : Lookahead). IsAhead a next s room m y) c.in-Byte.is ahead in
+    let h = subst (λ (a : Lookahead). IsAhead a next s m y) c.in-Byte.is ahead in
     plain_on s m c.args.at 1 x y before refl (plain_byte s m c.in-Byte.field-0 y h.0)

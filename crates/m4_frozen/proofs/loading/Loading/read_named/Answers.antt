@@ -51,5 +51,5 @@ returns c = named_text c.args.bytes.now c.split_at.result.0.now c.split_at.resul
     c.split_at.ensures.front c.split_at.ensures.back) (all_came c.args.bytes.now c.split_at.result.0.now c.split_at.result.1.now c.args.begun.missing
     c.min.result c.split_at.ensures.front c.split_at.ensures.back c.split_at.ensures.front_len
     c.min.ensures (sym c.is_empty.ensures ∙ c.if-is_empty.false)) c.in_ok-after.ensures c.requires
-    (c.in_ok-text.ensures ∙ c.in_ok-extend_from_slice.ensures.items)
+    (c.in_ok-text.ensures ∙ c.shrink_to_fit.ensures.items ∙ c.in_ok-extend_from_slice.ensures.items)
     (ap (λ (x : State). record c.args.self.now { state = x }) (rw (c.as_slice.ensures.value) at c.in_ok-push_borrowed.ensures.ok))

@@ -3,6 +3,7 @@ use Rattle.std.proofs.Common.{◌≡◌, ◌∙◌, ap, sym}
 use Rattle.m4_engine.specs.declared.ending.Cause.TheVariants as causes
 use Rattle.m4_tool.proofs.LineEnds.{missed_cause, missed_ends}
 use Rattle.m4_tool.proofs.ReadFaults.{closes_read}
+use Rattle.m4_tool.proofs.Counts.{grew_after, grew_then}
 use Rattle.m4_tool.proofs.follow.closing.close_unopened.Goals as goal
 use Rattle.m4_tool.proofs.follow.closing.close_unopened.Goals.{in-Ok, in-Err}
 
@@ -29,3 +30,10 @@ returns-clause-unread g c = λ e.
       | in-Ok w ↦ (let h : causes.Done ≡ causes.Read = sym w.cause-is ∙ k in cc)
       | in-Err w ↦ (let h : causes.Write ≡ causes.Read = sym w.cause-is ∙ k in cc)
     ]
+
+pub returns-clause-shown_output : goal.returns-clause-shown_output
+returns-clause-shown_output g c = λ base h. c.close.ensures.shown_output base h
+
+pub returns-clause-shown_messages : goal.returns-clause-shown_messages
+returns-clause-shown_messages g c = λ base h.
+    c.close.ensures.shown_messages base (grew_then base _ _ h (grew_after c.put_unopened.result _ _ c.put_unopened.ensures.counted))

@@ -1,6 +1,7 @@
 -- A frozen file that was refused has one line, and other ends have none.
 use Rattle.m4_tool.proofs.Counts.{grew_after}
 use Rattle.m4_tool.proofs.LineEnds.{refusal_reported, some_refused}
+use Rattle.m4_tool.proofs.ShownWriters.{shown_after_put}
 use Rattle.m4_tool.proofs.follow.closing.report_refusal.Goals as goal
 
 pub returns-then-is_ok-clause-reports : goal.returns-then-is_ok-clause-reports
@@ -18,3 +19,11 @@ returns-then-is_ok-clause-refused g c = λ _. some_refused c.args.cause c.in-Fro
 
 pub returns-else-is_ok-clause-refused : goal.returns-else-is_ok-clause-refused
 returns-else-is_ok-clause-refused g c = λ _. some_refused c.args.cause c.in-Frozen.field-0 c.args.file.now c.in-Frozen.is
+
+pub returns-then-is_ok-clause-kept : goal.returns-then-is_ok-clause-kept
+returns-then-is_ok-clause-kept g c = λ base h. shown_after_put c.put_refused-put.result c.flush-shown.result base _ _ _ _ _ h.grew
+    c.put_refused-put.ensures.counted c.flush-shown.ensures.failures c.flush-shown.ensures.shown
+
+pub returns-else-is_ok-clause-kept : goal.returns-else-is_ok-clause-kept
+returns-else-is_ok-clause-kept g c = λ base h. shown_after_put c.put_refused-put.result c.flush-shown.result base _ _ _ _ _ h.grew
+    c.put_refused-put.ensures.counted c.flush-shown.ensures.failures c.flush-shown.ensures.shown

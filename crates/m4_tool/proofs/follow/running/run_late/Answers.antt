@@ -1,8 +1,8 @@
 -- The run's files and messages, by its contract and by the late file's facts.
-use Rattle.std.proofs.Common.{ap, ◌∙◌, inr}
+use Rattle.std.proofs.Common.{ap, refl, ◌∙◌, inr}
 use Rattle.m4_engine.specs.Run.{run as defined}
 use Rattle.m4_tool.proofs.ExtendedFiles.{all_extend}
-use Rattle.m4_tool.proofs.RanFiles.{ran_so}
+use Rattle.m4_tool.proofs.RanFiles.{ran_so, untouched}
 use Rattle.m4_tool.proofs.ReadFaults.{run_fails}
 use Rattle.m4_tool.proofs.follow.running.run_late.Goals as goal
 
@@ -14,7 +14,12 @@ returns-clause-ran g c = λ files input names script ss n t e.
     (g.O.ByteSink.contents c.args.out.now) (g.O.ByteSink.contents c.run_keeping-session.new.out) (g.M.ByteSink.contents c.args.messages.now) (g.M.ByteSink.contents c.run_keeping-session.new.messages)
     (g.O.ByteSink.failures c.args.out.now) (g.O.ByteSink.failures c.run_keeping-session.new.out) (g.M.ByteSink.failures c.args.messages.now) (g.M.ByteSink.failures c.run_keeping-session.new.messages)
     c.over-late.ensures.created (ap g.W.World.files c.over-late.ensures.world ∙ c.requires.before) c.over-late.ensures.failures
-    (c.run_keeping-session.ensures.gives script t ss (inr (all_extend g.W.Reader.ByteSource.script files input names c.args.sources.now c.run_keeping-session.new.sources ss n c.run_keeping-session.ensures.taken e))) c.run_keeping-session.ensures.write c.run_keeping-session.ensures.status.1
+    (c.run_keeping-session.ensures.gives script t ss (inr (all_extend g.W.Reader.ByteSource.script files input names c.args.sources.now c.run_keeping-session.new.sources ss n c.run_keeping-session.ensures.taken e))) c.run_keeping-session.ensures.write
+    (untouched (λ (late : _). g.W.World.files late.world) c.run_keeping-session.result.0.cause (defined c.args.options script ss)
+    c.over-late.result c.run_keeping-session.new.freeze_to _ g.K.LateStart.before (g.W.World.files c.run_keeping-session.new.freeze_to.world)
+    (ap g.W.World.files c.over-late.ensures.world ∙ c.requires.before) refl
+    (c.run_keeping-session.ensures.last script t ss (inr (all_extend g.W.Reader.ByteSource.script files input names c.args.sources.now c.run_keeping-session.new.sources ss n c.run_keeping-session.ensures.taken e))))
+    c.run_keeping-session.ensures.status.1
     c.run_keeping-session.new.freeze_to.agrees c.run_keeping-session.new.freeze_to.tried))
 
 pub returns-clause-read : goal.returns-clause-read

@@ -1,5 +1,5 @@
 use Rattle.m4_state.proofs.CallerLaws.{HasPut-start, HasPut-put, HasPut-cut, HasPut-last, Puts-refused}
-use Rattle.m4_frozen.proofs.inspector.put_counted.Goals as goal
+use Rattle.m4_frozen.proofs.inspector.put_shown_counted.Goals as goal
 
 -- the first part failed
 pub returns-in_err-put_word-clause-puts : goal.returns-in_err-put_word-clause-puts

@@ -2,7 +2,7 @@
 use Rattle.std.proofs.Common.{◌≡◌, ◌<◌, ◌≤◌, ◌∙◌, ◌++◌, ◌∷◌, [], ◌+◌, ◌/◌, ◌%◌, List, ℕ, sym, ap, arith}
 use Rattle.std.specs.Prelude.{decimal}
 use Rattle.std.proofs.lemmas.Fmt.{decimal_digit, decimal_step}
-use Rattle.m4_frozen.proofs.writer.gather_length.Goals as goal
+use Rattle.m4_frozen.proofs.gathered.gather_length.Goals as goal
 
 one : (n : ℕ) → n < 10 → (48 + n) ∷ [] ≡ decimal n
 one n l = sym (decimal_digit n l)
