@@ -87,9 +87,10 @@ torn: m4r
 deb: m4r
 	tools/deb dist
 
-# The wrong bodies that the gate leaves out. Give CRATES='m4_tool ..' to try those of some crates.
+# The wrong bodies that the gate leaves out. Give CRATES='m4_tool ..' to try those of some crates, and
+# ROWS=1 to run those that a table of rows shows on these rows, without a proof.
 wrong-bodies:
-	tests/wrong_bodies/run $(CRATES)
+	tests/wrong_bodies/run $(if $(ROWS),--rows) $(CRATES)
 
 # The archive of a release, in dist/: program, man page, pages, completions, examples and checksums.
 dist: m4r
