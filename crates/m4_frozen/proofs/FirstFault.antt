@@ -91,15 +91,9 @@ pub row_refused : (kind : FrozenKind) (before here : List ℕ) → RowFits kind 
 row_refused kinds.NoVersion before here h = absurd (let k = h.0 in cc)
 row_refused kinds.SecondVersion before here h = rw h.1 (second_refused here h.2)
 row_refused kinds.UnknownDirective before here h = rw h.1 (unknown_refused here h.2)
-row_refused kinds.Newer before here h = within_refused kinds.Newer before here h
-row_refused kinds.VersionZero before here h = within_refused kinds.VersionZero before here h
-row_refused kinds.DigitExpected before here h = within_refused kinds.DigitExpected before here h
-row_refused kinds.NumberTooLarge before here h = within_refused kinds.NumberTooLarge before here h
-row_refused kinds.SeparatorExpected before here h =
-    within_refused kinds.SeparatorExpected before here h
-row_refused kinds.PrematureEnd before here h = within_refused kinds.PrematureEnd before here h
 row_refused kinds.Read before here h = absurd h
 row_refused kinds.OutOfMemory before here h = absurd h
+row_refused kind before here h = within_refused kind before here h
 
 -- the same after directives
 directives_refused : (kind : FrozenKind) (ds : List Directive) (front before here : List ℕ) (n : ℕ)
@@ -164,18 +158,9 @@ row_refused_before kinds.NoVersion before here (e, inr h) =
     rw (h.1, append-nil before, skip_lines-open before h.0) refl
 row_refused_before kinds.SecondVersion before here h = absurd (let k = h.0 in cc)
 row_refused_before kinds.UnknownDirective before here h = absurd (let k = h.0 in cc)
-row_refused_before kinds.Newer before here h = version_refused kinds.Newer before here h
-row_refused_before kinds.VersionZero before here h = version_refused kinds.VersionZero before here h
-row_refused_before kinds.DigitExpected before here h =
-    version_refused kinds.DigitExpected before here h
-row_refused_before kinds.NumberTooLarge before here h =
-    version_refused kinds.NumberTooLarge before here h
-row_refused_before kinds.SeparatorExpected before here h =
-    version_refused kinds.SeparatorExpected before here h
-row_refused_before kinds.PrematureEnd before here h =
-    version_refused kinds.PrematureEnd before here h
 row_refused_before kinds.Read before here h = absurd h
 row_refused_before kinds.OutOfMemory before here h = absurd h
+row_refused_before kind before here h = version_refused kind before here h
 
 -- the result is the row after a front
 file_refused : (kind : FrozenKind) (versioned : Bool) (front before here : List ℕ)

@@ -16,7 +16,7 @@ use Rattle.m4_frozen.specs.ReaderSteps.{◌>>=◌, Step, refused, layout_at, dir
 use Rattle.m4_frozen.specs.ReaderSteps.{directives_at, after_version, file_at}
 use Rattle.m4_frozen.specs.Layout.{Part, Layout, Done, Then, IsWrong, pair_layout, diversion_layout, version_layout}
 use Rattle.m4_frozen.specs.Layout.{layout_of, IsWrongWithin}
-use Rattle.m4_frozen.specs.FaultAt.{RowFits, IsFault}
+use Rattle.m4_frozen.specs.FaultAt.{RowFits, FitsWithin, IsFault}
 use Rattle.m4_frozen.specs.ReaderSteps.{fault_of}
 use Rattle.m4_frozen.proofs.SkippedLines.{are_skipped, passed_skipped}
 use Rattle.m4_frozen.proofs.ByteTests.{by_test, test, eq_of}
@@ -104,25 +104,23 @@ never kind (Done x) before here f h = h
 never kind (Then p after) before here f (inl h) = f p before here h
 never kind (Then p after) before here f (inr h) = never kind (after h.0) h.2 here f h.6
 
--- a fault inside a layout is one after the letter
-within : (kind : FrozenKind) (letter : ℕ) (l : Layout Directive) (before here : List ℕ)
-    → layout_of letter ≡ Some l → IsWrongWithin kind l before here
-    → RowFits kind true (letter ∷ before) here
-within kinds.Newer letter l before here e h = (letter, before, refl, (l, e, h))
-within kinds.VersionZero letter l before here e h = (letter, before, refl, (l, e, h))
-within kinds.DigitExpected letter l before here e h = (letter, before, refl, (l, e, h))
-within kinds.NumberTooLarge letter l before here e h = (letter, before, refl, (l, e, h))
-within kinds.SeparatorExpected letter l before here e h = (letter, before, refl, (l, e, h))
-within kinds.PrematureEnd letter l before here e h = (letter, before, refl, (l, e, h))
-within kinds.NoVersion letter l before here e h =
-    absurd (never kinds.NoVersion l before here (λ p b x k. k) h)
-within kinds.SecondVersion letter l before here e h =
-    absurd (never kinds.SecondVersion l before here (λ p b x k. k) h)
-within kinds.UnknownDirective letter l before here e h =
-    absurd (never kinds.UnknownDirective l before here (λ p b x k. k) h)
-within kinds.Read letter l before here e h = never kinds.Read l before here (λ p b x k. k) h
-within kinds.OutOfMemory letter l before here e h = never kinds.OutOfMemory l before here
-    (λ p b x k. k) h
+-- so it is none after a letter
+never_within : (kind : FrozenKind) (versioned : Bool) (before here : List ℕ)
+    → ((p : Part) (b x : List ℕ) → IsWrong kind p b x → ⊥) → FitsWithin kind versioned before here → ⊥
+never_within kind true before here f h = never kind h.3.0 h.1 here f h.3.2
+never_within kind false before here f h = never kind version_layout h.1 here f h.3.1
+
+-- a fault after a letter is a row of the table
+row_of : (kind : FrozenKind) (versioned : Bool) (before here : List ℕ)
+    → FitsWithin kind versioned before here → RowFits kind versioned before here
+row_of kinds.NoVersion v before here h = absurd (never_within kinds.NoVersion v before here (λ p b x k. k) h)
+row_of kinds.SecondVersion v before here h =
+    absurd (never_within kinds.SecondVersion v before here (λ p b x k. k) h)
+row_of kinds.UnknownDirective v before here h =
+    absurd (never_within kinds.UnknownDirective v before here (λ p b x k. k) h)
+row_of kinds.Read v before here h = never_within kinds.Read v before here (λ p b x k. k) h
+row_of kinds.OutOfMemory v before here h = never_within kinds.OutOfMemory v before here (λ p b x k. k) h
+row_of kind v before here h = h
 
 -- what a layout says, its letter says
 by_layout : (letter : ℕ) (l : Layout Directive) (bytes : List ℕ) (r : Step Directive)
@@ -133,7 +131,7 @@ by_layout letter l bytes (Ok v) e f h = (h.0, f v.0 h.0 v.1 h.1, h.2)
 by_layout letter l bytes (Err x) e f h = (
   letter ∷ h.0,
   h.1,
-  within x.kind letter l h.0 h.1 e h.2,
+  row_of x.kind true (letter ∷ h.0) h.1 (letter, h.0, refl, (l, e, h.2)),
   ap (λ (xs : List ℕ). letter ∷ xs) h.3,
   h.4,
 )
@@ -320,26 +318,6 @@ directives_say zero bytes lt = absurd (omega arith)
 directives_say (suc n) bytes lt = directives_say_of n bytes (skip_lines false bytes)
     (λ later less. directives_say n later (omega arith)) (has_lines bytes)
 
--- a fault inside the version is one after `V`
-within_version : (kind : FrozenKind) (before here : List ℕ)
-    → IsWrongWithin kind version_layout before here → RowFits kind false (letter_V ∷ before) here
-within_version kinds.Newer before here h = (letter_V, before, refl, (refl, h))
-within_version kinds.VersionZero before here h = (letter_V, before, refl, (refl, h))
-within_version kinds.DigitExpected before here h = (letter_V, before, refl, (refl, h))
-within_version kinds.NumberTooLarge before here h = (letter_V, before, refl, (refl, h))
-within_version kinds.SeparatorExpected before here h = (letter_V, before, refl, (refl, h))
-within_version kinds.PrematureEnd before here h = (letter_V, before, refl, (refl, h))
-within_version kinds.NoVersion before here h =
-    absurd (never kinds.NoVersion version_layout before here (λ p b x k. k) h)
-within_version kinds.SecondVersion before here h =
-    absurd (never kinds.SecondVersion version_layout before here (λ p b x k. k) h)
-within_version kinds.UnknownDirective before here h =
-    absurd (never kinds.UnknownDirective version_layout before here (λ p b x k. k) h)
-within_version kinds.Read before here h = never kinds.Read version_layout before here
-    (λ p b x k. k) h
-within_version kinds.OutOfMemory before here h = never kinds.OutOfMemory version_layout before here
-    (λ p b x k. k) h
-
 -- the bytes after the version, or the fault before them
 abbrev pub StartSays : List ℕ → Result (List ℕ) Refusal → Type 0
 StartSays bytes (Ok rest) = (lines : List ℕ) × (number : List ℕ) × AreSkippedLines lines
@@ -368,7 +346,7 @@ start_says_of bytes (b ∷ bs) h =
       letter_V ∷ k.0,
       k.1,
       passed_skipped h.0 h.2,
-      within_version x.kind k.0 k.1 k.2,
+      row_of x.kind false (letter_V ∷ k.0) k.1 (letter_V, k.0, refl, (refl, k.2)),
       rw (e, letter, k.3) (simp append_assoc),
       k.4,
     )))
