@@ -18,7 +18,7 @@ link text = record { prefix = false; sources = file text }
 -- diverted text is issued
 four_outputs : map (λ (r : RunResult). r.output) (chain usual false None (file (codes "define(`n',`1')dnl\n")) (link (codes "n pushdef(`n',`2')divert(1)n\n") ∷ link (codes "divert(0)n popdef(`n')dnl\n") ∷ link (codes "n undivert(1)end\n") ∷ []))
     ≡ [] ∷ codes "1 " ∷ codes "2 " ∷ codes "1 2\nend\n" ∷ []
-unfolding digits steps.file_at steps.version_at steps.directives_at steps.directive_at steps.pair_at steps.diversion_at steps.length_at steps.string_at
+unfolding digits steps.file_at steps.version_at steps.directives_at steps.directive_at steps.length_at steps.string_at
 four_outputs = refl
 
 -- one run over the four

@@ -47,5 +47,5 @@ saved_before_an_exit = refl
 
 -- a frozen file that is refused: the status is 1, nothing is read, and its text is not issued
 refused_file : run usual (Some (frozen_file (codes "V1\nD0,3\nhi\n\nX\n"))) (Opened (codes "a.m4") (codes "x") ∷ []) ≡ record (done [] [] 0) { reason = Ends (causes.Frozen (record { kind = kinds.UnknownDirective; offset = 12 })); status = 1 }
-unfolding steps.file_at steps.version_at steps.directives_at steps.directive_at steps.pair_at steps.diversion_at steps.length_at steps.string_at
+unfolding steps.file_at steps.version_at steps.directives_at steps.directive_at steps.length_at steps.string_at
 refused_file = refl

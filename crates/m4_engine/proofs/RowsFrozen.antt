@@ -71,59 +71,59 @@ delimiters_frozen = refl
 
 -- the run that goes on from it
 delimiters_reloaded : run usual (from delimiters_text) (Opened (codes "b.m4") (codes "# [define]\n") ∷ []) ≡ done (codes "# define\n") [] 0
-unfolding digits delimiters_text steps.file_at steps.version_at steps.directives_at steps.directive_at steps.pair_at steps.diversion_at steps.length_at steps.string_at
+unfolding digits delimiters_text steps.file_at steps.version_at steps.directives_at steps.directive_at steps.length_at steps.string_at
 delimiters_reloaded = refl
 
 -- a frozen file without builtins: `define` is a plain word
 only_what_is_frozen : run usual (from (codes "V1\n")) (Opened (codes "a.m4") (codes "define(`a',`b')a\n") ∷ []) ≡ done (codes "define(a,b)a\n") [] 0
-unfolding steps.file_at steps.version_at steps.directives_at steps.directive_at steps.pair_at steps.diversion_at steps.length_at steps.string_at
+unfolding steps.file_at steps.version_at steps.directives_at steps.directive_at steps.length_at steps.string_at
 only_what_is_frozen = refl
 
 -- text that a frozen file issues
 issued_text : run usual (from (codes "V1\nD0,3\nhi\n\n")) (Opened (codes "a.m4") [] ∷ []) ≡ done (codes "hi\n") [] 0
-unfolding steps.file_at steps.version_at steps.directives_at steps.directive_at steps.pair_at steps.diversion_at steps.length_at steps.string_at
+unfolding steps.file_at steps.version_at steps.directives_at steps.directive_at steps.length_at steps.string_at
 issued_text = refl
 
 -- a frozen file of a newer version: nothing is read
 newer_file : run usual (from (codes "# c\n\nV2\n")) (Opened (codes "a.m4") (codes "x") ∷ []) ≡ record (done [] [] 0) { reason = Ends (causes.Frozen (record { kind = kinds.Newer; offset = 6 })); status = 63 }
-unfolding steps.file_at steps.version_at steps.directives_at steps.directive_at steps.pair_at steps.diversion_at steps.length_at steps.string_at
+unfolding steps.file_at steps.version_at steps.directives_at steps.directive_at steps.length_at steps.string_at
 newer_file = refl
 
 -- a builtin of another m4
 placeholder : run freezing (from (codes "V1\nF6,6\nregexpregexp\n")) (Opened (codes "b.m4") (codes "regexp(`a',`b')!\n") ∷ [])
     ≡ record (done (codes "!\n") (codes "m4:b.m4:1: Warning: builtin `regexp' requested by frozen file is not supported\n") 1) { frozen = Some (codes "# m4 frozen state\nV1\nF6,6\nregexpregexp\n# End of frozen state file\n") }
-unfolding digits steps.file_at steps.version_at steps.directives_at steps.directive_at steps.pair_at steps.diversion_at steps.length_at steps.string_at
+unfolding digits steps.file_at steps.version_at steps.directives_at steps.directive_at steps.length_at steps.string_at
 placeholder = refl
 
 -- without a list it is called too
 placeholder_alone : run freezing (from (codes "V1\nF6,6\nregexpregexp\n")) (Opened (codes "b.m4") (codes "regexp!\n") ∷ [])
     ≡ record (done (codes "!\n") (codes "m4:b.m4:1: Warning: builtin `regexp' requested by frozen file is not supported\n") 1) { frozen = Some (codes "# m4 frozen state\nV1\nF6,6\nregexpregexp\n# End of frozen state file\n") }
-unfolding digits steps.file_at steps.version_at steps.directives_at steps.directive_at steps.pair_at steps.diversion_at steps.length_at steps.string_at
+unfolding digits steps.file_at steps.version_at steps.directives_at steps.directive_at steps.length_at steps.string_at
 placeholder_alone = refl
 
 -- an older file that names a builtin which m4r has gained
 older_file : run freezing (from (codes "V1\nF4,4\nevaleval\n")) (Opened (codes "b.m4") (codes "eval(`1+1')\n") ∷ []) ≡ record (done (codes "2\n") [] 1) { frozen = Some (codes "# m4 frozen state\nV1\nF4,4\nevaleval\n# End of frozen state file\n") }
-unfolding digits int_wrap steps.file_at steps.version_at steps.directives_at steps.directive_at steps.pair_at steps.diversion_at steps.length_at steps.string_at
+unfolding digits int_wrap steps.file_at steps.version_at steps.directives_at steps.directive_at steps.length_at steps.string_at
 older_file = refl
 
 -- without parameters its name is text
 older_name : run freezing (from (codes "V1\nF4,4\nevaleval\n")) (Opened (codes "b.m4") (codes "eval\n") ∷ []) ≡ record (done (codes "eval\n") [] 0) { frozen = Some (codes "# m4 frozen state\nV1\nF4,4\nevaleval\n# End of frozen state file\n") }
-unfolding digits int_wrap steps.file_at steps.version_at steps.directives_at steps.directive_at steps.pair_at steps.diversion_at steps.length_at steps.string_at
+unfolding digits int_wrap steps.file_at steps.version_at steps.directives_at steps.directive_at steps.length_at steps.string_at
 older_name = refl
 
 -- what was reloaded is frozen again, with what was defined since
 frozen_again : run freezing (from (codes "V1\nF6,6\ndefinedefine\nT1,1\nab\n")) (Opened (codes "b.m4") (codes "a define(`c',`d$1')a\n") ∷ []) ≡ record (done (codes "b b\n") [] 3) { frozen = Some (codes "# m4 frozen state\nV1\nT1,1\nab\nT1,3\ncd$1\nF6,6\ndefinedefine\n# End of frozen state file\n") }
-unfolding digits steps.file_at steps.version_at steps.directives_at steps.directive_at steps.pair_at steps.diversion_at steps.length_at steps.string_at
+unfolding digits steps.file_at steps.version_at steps.directives_at steps.directive_at steps.length_at steps.string_at
 frozen_again = refl
 
 -- text goes to the diversion that a frozen file left current, and is issued at the end
 into_a_diversion : run usual (from (codes "V1\nD2,4\ntwo\n\n")) (Opened (codes "b.m4") (codes "more\n") ∷ []) ≡ done (codes "two\nmore\n") [] 0
-unfolding steps.file_at steps.version_at steps.directives_at steps.directive_at steps.pair_at steps.diversion_at steps.length_at steps.string_at
+unfolding steps.file_at steps.version_at steps.directives_at steps.directive_at steps.length_at steps.string_at
 into_a_diversion = refl
 
 -- a negative number discards it
 discarded : run usual (from (codes "V1\nD-1,0\n\n")) (Opened (codes "b.m4") (codes "x\n") ∷ []) ≡ done [] [] 0
-unfolding steps.file_at steps.version_at steps.directives_at steps.directive_at steps.pair_at steps.diversion_at steps.length_at steps.string_at
+unfolding steps.file_at steps.version_at steps.directives_at steps.directive_at steps.length_at steps.string_at
 discarded = refl
 
 -- the frozen text of a run that defines a greeting and puts nothing out
@@ -139,10 +139,10 @@ greeting_frozen = refl
 
 -- the run that goes on from it makes the greeting
 greeting_reloaded : run usual (from greeting_text) (Opened (codes "b.m4") (codes "hi(`you')\n") ∷ []) ≡ done (codes "Hello you.\n") [] 1
-unfolding digits greeting_text steps.file_at steps.version_at steps.directives_at steps.directive_at steps.pair_at steps.diversion_at steps.length_at steps.string_at
+unfolding digits greeting_text steps.file_at steps.version_at steps.directives_at steps.directive_at steps.length_at steps.string_at
 greeting_reloaded = refl
 
 -- a run that freezes keeps its diversions
 diversions_are_frozen : run freezing (from (codes "V1\nD2,4\ntwo\n\n")) (Opened (codes "b.m4") (codes "more\n") ∷ []) ≡ record (done [] [] 0) { frozen = Some (codes "# m4 frozen state\nV1\nD2,9\ntwo\nmore\n\n# End of frozen state file\n") }
-unfolding digits steps.file_at steps.version_at steps.directives_at steps.directive_at steps.pair_at steps.diversion_at steps.length_at steps.string_at
+unfolding digits steps.file_at steps.version_at steps.directives_at steps.directive_at steps.length_at steps.string_at
 diversions_are_frozen = refl

@@ -24,8 +24,9 @@ use Rattle.m4_frozen.specs.Ascii.{newline, letter_Q, letter_C, letter_T, letter_
 use Rattle.m4_frozen.specs.Directive.{Directive, Quotes, Comments, Text, Builtin, Diversion}
 use Rattle.m4_frozen.specs.Freeze.{same_delimiters, unless_default, definition, definitions, diversion, last_number}
 use Rattle.m4_frozen.specs.Freeze.{current_unless_last, canonical, two_strings, spelling, header, end_line, freeze}
-use Rattle.m4_frozen.specs.Spells.{AreDigits, value_from, value_of, IsNumber, IsSigned, IsPair, IsDiversion}
+use Rattle.m4_frozen.specs.Spells.{AreDigits, value_of, IsNumber, IsSigned, IsPair, IsDiversion}
 use Rattle.m4_frozen.specs.Spells.{SpellsOne, IsSkippedLine, AreSkippedLines, AreLines, SpellsAll, Spells}
+use Rattle.m4_frozen.proofs.Digits.{value_from}
 
 -- ---- numbers
 

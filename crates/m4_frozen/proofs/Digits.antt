@@ -2,13 +2,17 @@
 use Rattle.std.proofs.Common.{◌≡◌, ℕ, ◌+◌, ◌*◌, ◌-◌, ◌<◌, ◌≤◌, List, [], ◌∷◌, length, get_or, drop, arith}
 use Rattle.std.proofs.lemmas.List.{at_drop_more}
 use Rattle.std.proofs.Common.{refl}
-use Rattle.std.specs.Prelude.{IsTrue}
+use Rattle.std.specs.Prelude.{IsTrue, fold}
 use Rattle.std.specs.List.{list_all}
 use Rattle.std.specs.Char.{is_ascii_digit}
 use Rattle.m4_frozen.specs.Ascii.{digit_zero}
-use Rattle.m4_frozen.specs.Spells.{value_from, value_of}
+use Rattle.m4_frozen.specs.Spells.{value_of}
 use Rattle.m4_frozen.specs.ReaderSteps.{digits_at}
 use Rattle.m4_frozen.proofs.ByteTests.{by_test}
+
+-- the value of digits that follow digits of value n
+abbrev pub value_from : ℕ → List ℕ → ℕ
+value_from n bs = fold (λ m b. 10 * m + (b - digit_zero)) n bs
 
 -- more digits make a number no smaller
 pub value_from-ge : (n : ℕ) (bs : List ℕ) → n ≤ value_from n bs

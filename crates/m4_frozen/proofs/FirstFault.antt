@@ -9,59 +9,23 @@ use Rattle.m4_frozen.specs.Ascii.{newline, hash, letter_C, letter_D, letter_F, l
 use Rattle.m4_frozen.specs.declared.fault.Refusal.{Refusal}
 use Rattle.m4_frozen.specs.declared.fault.FrozenKind.{FrozenKind}
 use Rattle.m4_frozen.specs.declared.fault.FrozenKind.TheVariants as kinds
-use Rattle.m4_frozen.specs.Directive.{Directive, Quotes, Comments, Text, Builtin}
+use Rattle.m4_frozen.specs.Directive.{Directive}
 use Rattle.m4_frozen.specs.Spells.{Spells, SpellsAll}
-use Rattle.m4_frozen.specs.ReaderSteps.{refused, directive_at, skip_lines, next_at, directives_at, after_version}
-use Rattle.m4_frozen.specs.ReaderSteps.{file_at, fault_of}
-use Rattle.m4_frozen.specs.Layout.{Layout, layout_of, pair_layout, diversion_layout, version_layout, first_is}
+use Rattle.m4_frozen.specs.ReaderSteps.{refused, layout_at, directive_by, directive_at, skip_lines, next_at}
+use Rattle.m4_frozen.specs.ReaderSteps.{directives_at, after_version, file_at, fault_of}
+use Rattle.m4_frozen.specs.Layout.{Layout, layout_of, version_layout, first_is}
 use Rattle.m4_frozen.specs.FaultAt.{ExactFault, RowFits, FitsWithin, IsFront, IsFault, is_none_of}
 use Rattle.m4_frozen.proofs.SkippedLines.{skip_lines-append, skip_lines-open}
 use Rattle.m4_frozen.proofs.ByteTests.{test, both_true, eq_of}
 use Rattle.m4_frozen.proofs.ReadBack.{one_is_read, next_at-spelled, length-SpellsAll, version_at-number}
 use Rattle.m4_frozen.proofs.ReadBack.{file_at-spelled}
-use Rattle.m4_frozen.proofs.Parts.{layout_at}
-use Rattle.m4_frozen.proofs.Spelled.{pair_is_layout, diversion_is_layout, version_is_layout}
 use Rattle.m4_frozen.proofs.RowsRefused.{layout_refused}
 
--- a letter has a layout
-abbrev maybe : Layout Directive → Option (Layout Directive)
-maybe l = Some l
-
--- it has one
-same_layout : (a b : Layout Directive) → maybe a ≡ maybe b → a ≡ b
-same_layout a b e = cc
-
 -- a directive with a letter of the table is read by its layout
-by_letter : (letter : ℕ) (l : Layout Directive) (bytes : List ℕ) → layout_of letter ≡ Some l
+pub by_letter : (letter : ℕ) (l : Layout Directive) (bytes : List ℕ) → layout_of letter ≡ Some l
     → directive_at letter bytes ≡ layout_at l bytes
 unfolding directive_at
-by_letter letter l bytes h =
-    elim (test (eqb letter letter_Q)) [
-      | inl e ↦ rw e (pair_is_layout Quotes bytes
-          ∙ ap (λ (x : Layout Directive). layout_at x bytes)
-          (same_layout (pair_layout Quotes) l (rw e at h)))
-      | inr e1 ↦ elim (test (eqb letter letter_C)) [
-        | inl e ↦ rw (e1, e) (pair_is_layout Comments bytes
-            ∙ ap (λ (x : Layout Directive). layout_at x bytes)
-            (same_layout (pair_layout Comments) l (rw (e1, e) at h)))
-        | inr e2 ↦ elim (test (eqb letter letter_T)) [
-          | inl e ↦ rw (e1, e2, e) (pair_is_layout Text bytes
-              ∙ ap (λ (x : Layout Directive). layout_at x bytes)
-              (same_layout (pair_layout Text) l (rw (e1, e2, e) at h)))
-          | inr e3 ↦ elim (test (eqb letter letter_F)) [
-            | inl e ↦ rw (e1, e2, e3, e) (pair_is_layout Builtin bytes
-                ∙ ap (λ (x : Layout Directive). layout_at x bytes)
-                (same_layout (pair_layout Builtin) l (rw (e1, e2, e3, e) at h)))
-            | inr e4 ↦ elim (test (eqb letter letter_D)) [
-              | inl e ↦ rw (e1, e2, e3, e4, e) (diversion_is_layout bytes
-                  ∙ ap (λ (x : Layout Directive). layout_at x bytes)
-                  (same_layout diversion_layout l (rw (e1, e2, e3, e4, e) at h)))
-              | inr e5 ↦ absurd (let k = rw (e1, e2, e3, e4, e5) at h in cc)
-            ]
-          ]
-        ]
-      ]
-    ]
+by_letter letter l bytes h = ap (λ (o : Option (Layout Directive)). directive_by o letter bytes) h
 
 -- a letter of the table begins no line
 pub no_line : (letter : ℕ) (l : Layout Directive) (bs : List ℕ) → layout_of letter ≡ Some l
@@ -127,15 +91,9 @@ pub row_refused : (kind : FrozenKind) (before here : List ℕ) → RowFits kind 
 row_refused kinds.NoVersion before here h = absurd (let k = h.0 in cc)
 row_refused kinds.SecondVersion before here h = rw h.1 (second_refused here h.2)
 row_refused kinds.UnknownDirective before here h = rw h.1 (unknown_refused here h.2)
-row_refused kinds.Newer before here h = within_refused kinds.Newer before here h
-row_refused kinds.VersionZero before here h = within_refused kinds.VersionZero before here h
-row_refused kinds.DigitExpected before here h = within_refused kinds.DigitExpected before here h
-row_refused kinds.NumberTooLarge before here h = within_refused kinds.NumberTooLarge before here h
-row_refused kinds.SeparatorExpected before here h =
-    within_refused kinds.SeparatorExpected before here h
-row_refused kinds.PrematureEnd before here h = within_refused kinds.PrematureEnd before here h
 row_refused kinds.Read before here h = absurd h
 row_refused kinds.OutOfMemory before here h = absurd h
+row_refused kind before here h = within_refused kind before here h
 
 -- the same after directives
 directives_refused : (kind : FrozenKind) (ds : List Directive) (front before here : List ℕ) (n : ℕ)
@@ -179,7 +137,6 @@ version_refused kind before here h =
     rw (
       h.2,
       h.3.0,
-      version_is_layout (h.1 ++ here),
       layout_refused kind version_layout h.1 here h.3.1,
     ) refl
 
@@ -201,18 +158,9 @@ row_refused_before kinds.NoVersion before here (e, inr h) =
     rw (h.1, append-nil before, skip_lines-open before h.0) refl
 row_refused_before kinds.SecondVersion before here h = absurd (let k = h.0 in cc)
 row_refused_before kinds.UnknownDirective before here h = absurd (let k = h.0 in cc)
-row_refused_before kinds.Newer before here h = version_refused kinds.Newer before here h
-row_refused_before kinds.VersionZero before here h = version_refused kinds.VersionZero before here h
-row_refused_before kinds.DigitExpected before here h =
-    version_refused kinds.DigitExpected before here h
-row_refused_before kinds.NumberTooLarge before here h =
-    version_refused kinds.NumberTooLarge before here h
-row_refused_before kinds.SeparatorExpected before here h =
-    version_refused kinds.SeparatorExpected before here h
-row_refused_before kinds.PrematureEnd before here h =
-    version_refused kinds.PrematureEnd before here h
 row_refused_before kinds.Read before here h = absurd h
 row_refused_before kinds.OutOfMemory before here h = absurd h
+row_refused_before kind before here h = version_refused kind before here h
 
 -- the result is the row after a front
 file_refused : (kind : FrozenKind) (versioned : Bool) (front before here : List ℕ)

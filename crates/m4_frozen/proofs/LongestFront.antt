@@ -116,14 +116,9 @@ row_stops kinds.NoVersion before here h = absurd (let k = h.0 in cc)
 row_stops kinds.SecondVersion before here h = rw h.1 (letter_stops here h.2)
 row_stops kinds.UnknownDirective before here h =
     rw h.1 (none_stops (codes "CDFQTV") here h.2)
-row_stops kinds.Newer before here h = within_stops kinds.Newer before here h
-row_stops kinds.VersionZero before here h = within_stops kinds.VersionZero before here h
-row_stops kinds.DigitExpected before here h = within_stops kinds.DigitExpected before here h
-row_stops kinds.NumberTooLarge before here h = within_stops kinds.NumberTooLarge before here h
-row_stops kinds.SeparatorExpected before here h = within_stops kinds.SeparatorExpected before here h
-row_stops kinds.PrematureEnd before here h = within_stops kinds.PrematureEnd before here h
 row_stops kinds.Read before here h = absurd h
 row_stops kinds.OutOfMemory before here h = absurd h
+row_stops kind before here h = within_stops kind before here h
 
 -- nor within the version
 within_stops_before : (kind : FrozenKind) (before here : List ℕ) → FitsWithin kind false before here
@@ -195,26 +190,10 @@ row_max_before kinds.NoVersion front other before here rest a b (k, inr (inr h, 
 row_max_before kinds.SecondVersion front other before here rest a b h e = absurd (let k = h.0 in cc)
 row_max_before kinds.UnknownDirective front other before here rest a b h e =
     absurd (let k = h.0 in cc)
-row_max_before kinds.Newer front other before here rest a b h e =
-    lines_max front other (before ++ here) rest a b e
-    (within_stops_before kinds.Newer before here h)
-row_max_before kinds.VersionZero front other before here rest a b h e =
-    lines_max front other (before ++ here) rest a b e
-    (within_stops_before kinds.VersionZero before here h)
-row_max_before kinds.DigitExpected front other before here rest a b h e =
-    lines_max front other (before ++ here) rest a b e
-    (within_stops_before kinds.DigitExpected before here h)
-row_max_before kinds.NumberTooLarge front other before here rest a b h e =
-    lines_max front other (before ++ here) rest a b e
-    (within_stops_before kinds.NumberTooLarge before here h)
-row_max_before kinds.SeparatorExpected front other before here rest a b h e =
-    lines_max front other (before ++ here) rest a b e
-    (within_stops_before kinds.SeparatorExpected before here h)
-row_max_before kinds.PrematureEnd front other before here rest a b h e =
-    lines_max front other (before ++ here) rest a b e
-    (within_stops_before kinds.PrematureEnd before here h)
 row_max_before kinds.Read front other before here rest a b h e = absurd h
 row_max_before kinds.OutOfMemory front other before here rest a b h e = absurd h
+row_max_before kind front other before here rest a b h e =
+    lines_max front other (before ++ here) rest a b e (within_stops_before kind before here h)
 
 -- a front with the version, whatever follows
 record Starts (front tail : List ℕ) (rest : List ℕ) : Type 0 where

@@ -1,5 +1,5 @@
 -- A name's text that is read as its bytes come.
-use Rattle.std.proofs.Common.{◌≡◌, ℕ, suc, ◌-◌, ◌≤◌, true, List, [], ◌∷◌, ◌++◌, length, Option, Some, None, Result}
+use Rattle.std.proofs.Common.{◌≡◌, ℕ, suc, ◌-◌, ◌≤◌, true, List, [], ◌∷◌, ◌++◌, length, Option, Some, None}
 use Rattle.std.proofs.Common.{Ok, Err, refl, sym, ap, subst, ◌∙◌, append_assoc, inl, inr}
 use Rattle.std.proofs.lemmas.List.{append-nil}
 use Rattle.m4_state.specs.State.{State, pushed}
@@ -8,36 +8,28 @@ use Rattle.m4_frozen.specs.Ascii.{newline, letter_T}
 use Rattle.m4_frozen.specs.declared.begun.Begun.{Begun}
 use Rattle.m4_frozen.specs.declared.begun.Begun.TheVariants as begun
 use Rattle.m4_frozen.specs.declared.begun.NamedText.{NamedText}
-use Rattle.m4_frozen.specs.declared.fault.Refusal.{Refusal}
 use Rattle.m4_frozen.specs.declared.loading.Loading.{Loading}
 use Rattle.m4_frozen.specs.Denote.{denote}
-use Rattle.m4_frozen.specs.Directive.{Directive, Text}
-use Rattle.m4_frozen.specs.Layout.{Length, Comma, NewLine, String, Layout, Done, Then}
-use Rattle.m4_frozen.specs.ReaderSteps.{◌>>=◌, string_at, expect_byte, pair_head_at, pair_at, directive_at}
-use Rattle.m4_frozen.specs.ReaderSteps.{directives_at, file_at}
+use Rattle.m4_frozen.specs.Directive.{Text}
+use Rattle.m4_frozen.specs.Layout.{Layout, Done, last_string, pair_head, pair_layout}
+use Rattle.m4_frozen.specs.ReaderSteps.{Step, expect_byte, layout_at, directives_at, file_at}
 use Rattle.m4_frozen.specs.Underway.{IsAtDirective, text_left, HasRead, HasReadNamed, HasReadText, ReadAs, IsRead}
 use Rattle.m4_frozen.specs.Underway.{short}
-use Rattle.m4_frozen.proofs.ReadBack.{pair_head_at-spelled, comma_on}
-use Rattle.m4_frozen.proofs.Parts.{Step, layout_at, LayoutSays, layout_says}
-use Rattle.m4_frozen.proofs.Spelled.{bind_assoc}
-use Rattle.m4_frozen.proofs.TextRead.{then_all, then_text, as_next, after_next, within_opened, within_more}
-use Rattle.m4_frozen.proofs.TextRead.{within_short, has_read_closed, text_ends}
+use Rattle.m4_frozen.proofs.ReadBack.{pair_head-spelled, comma_on}
+use Rattle.m4_frozen.proofs.Parts.{LayoutSays, layout_says}
+use Rattle.m4_frozen.proofs.TextRead.{HasHead, text_begins, within_opened, within_more, within_short}
+use Rattle.m4_frozen.proofs.TextRead.{has_read_closed, text_ends}
 
--- the first string of a pair and the length of the second, by their parts
-abbrev head_layout : Layout (List ℕ × ℕ)
-head_layout = Then Length (λ n. Then Comma (λ c. Then Length (λ m. Then NewLine (λ e. Then (String n) (λ name. Done (name, m))))))
-
-head_is_layout : (bytes : List ℕ) → pair_head_at bytes ≡ layout_at head_layout bytes
-head_is_layout bytes = simp bind_assoc refl
+-- the first string of a pair and the length of the second alone
+abbrev pub pair_line : Layout (List ℕ × ℕ)
+pair_line = pair_head (λ name n. Done (name, n))
 
 -- what is read is read so whatever follows it
-record HasHead (bytes name : List ℕ) (n : ℕ) (rest : List ℕ) : Type 0 where
-  one : List ℕ
-  spelled : bytes ≡ one ++ rest
-  gives : (more : List ℕ) → pair_head_at (one ++ more) ≡ Ok ((name, n), more)
+abbrev IsHead : List ℕ → List ℕ → List ℕ × ℕ → Type 0
+IsHead bytes rest p = HasHead (pair_layout Text) (Text p.0) p.1 bytes rest
 
 head_says : (bytes name : List ℕ) (n : ℕ) (rest : List ℕ) (r : Step (List ℕ × ℕ))
-    → LayoutSays head_layout bytes r → r ≡ Ok ((name, n), rest) → HasHead bytes name n rest
+    → LayoutSays pair_line bytes r → r ≡ Ok ((name, n), rest) → IsHead bytes rest (name, n)
 head_says bytes name n rest r says e =
     let h = rw e at says in
     let h1 = h.1 in
@@ -45,63 +37,23 @@ head_says bytes name n rest r says e =
     let h3 = h2.6 in
     let h4 = h3.6 in
     let h5 = h4.6 in
-    let same : (h5.0, h3.0) ≡ (name, n) = h5.6.0 in record {
+    subst (IsHead bytes rest) h5.6.0 (record {
       one = h.0;
       spelled = h.2;
       gives = λ more.
           let parts : h.0 ++ more ≡ h1.1 ++ comma_on h2.3.0 h3.1 (h5.0 ++ more) =
           rw (h1.5, h2.5, h2.3.2, h3.5, h4.5, h4.3, h5.5, h5.3.0, h5.6.1) (simp append_assoc) in
-          ap pair_head_at parts
-          ∙ pair_head_at-spelled h1.0 h5.0 h3.0 h1.1 h2.3.0 h3.1 more h5.3.1 h1.3.0 h1.3.1 h2.3.1 h3.3.0 h3.3.1
-          ∙ ap (λ (p : List ℕ × ℕ). Ok (p, more)) same;
-    }
-
-has_head : (bytes name : List ℕ) (n : ℕ) (rest : List ℕ) → pair_head_at bytes ≡ Ok ((name, n), rest)
-    → HasHead bytes name n rest
-has_head bytes name n rest e =
-    head_says bytes name n rest (layout_at head_layout bytes) (layout_says head_layout bytes)
-    (sym (head_is_layout bytes) ∙ e)
-
--- the second string of a pair, and the bytes after its newline
-abbrev with_rest : List ℕ → List ℕ → List ℕ → Step (List ℕ × List ℕ)
-with_rest name text rest = Ok ((name, text), rest)
-
-abbrev to_newline : List ℕ → List ℕ × List ℕ → Step (List ℕ × List ℕ)
-to_newline name t = expect_byte newline t.1 >>= with_rest name t.0
-
--- a pair after `T` is a directive
-abbrev as_directive : (List ℕ × List ℕ) × List ℕ → Step Directive
-as_directive p = Ok (Text p.0.0 p.0.1, p.1)
-
--- the directives read after the newline of a text
-closed_of : (count : ℕ) (name text : List ℕ) (r : Result (List ℕ) Refusal)
-    → ((((r >>= with_rest name text) >>= as_directive) >>= as_next) >>= after_next count)
-    ≡ (r >>= then_all count (Text name text))
-closed_of count name text (Ok rest) = refl
-closed_of count name text (Err e) = refl
-
--- and after the name
-opened_of : (count : ℕ) (name : List ℕ) (r : Step (List ℕ))
-    → ((((r >>= to_newline name) >>= as_directive) >>= as_next) >>= after_next count)
-    ≡ (r >>= then_text count (Text name) [])
-opened_of count name (Ok t) = closed_of count name t.0 (expect_byte newline t.1)
-opened_of count name (Err e) = refl
+          ap (layout_at (pair_layout Text)) parts
+          ∙ pair_head-spelled (λ name. last_string (Text name)) h1.0 h5.0 h3.0 h1.1 h2.3.0 h3.1 more
+          h5.3.1 h1.3.0 h1.3.1 h2.3.1 h3.3.0 h3.3.1;
+    })
 
 -- a definition is read as its text
-opened : (count : ℕ) (name : List ℕ) (n : ℕ) (line tail : List ℕ) → pair_head_at line ≡ Ok ((name, n), tail)
-    → directives_at (suc count) (letter_T ∷ line) ≡ text_left count (Text name) [] n tail
-unfolding directives_at directive_at pair_at text_left
-opened count name n line tail e =
-    rw e (opened_of count name (string_at n tail))
-
-text_begins : (line text name : List ℕ) (n : ℕ) → pair_head_at line ≡ Ok ((name, n), text)
+named_begins : (line text name : List ℕ) (n : ℕ) → layout_at pair_line line ≡ Ok ((name, n), text)
     → (count : ℕ) (more : List ℕ) → directives_at (suc count) (letter_T ∷ (line ++ more))
     ≡ text_left count (Text name) [] n (text ++ more)
-text_begins line text name n e count more =
-    let k = has_head line name n text e in
-    let parts : line ++ more ≡ k.one ++ (text ++ more) =
-    ap (λ (xs : List ℕ). xs ++ more) k.spelled ∙ append_assoc k.one text more in
-    opened count name n (line ++ more) (text ++ more) (ap pair_head_at parts ∙ k.gives (text ++ more))
+named_begins line text name n e = text_begins letter_T (pair_layout Text) (Text name) n line text refl
+    (head_says line name n text (layout_at pair_line line) (layout_says pair_line line) e)
 
 -- a fact about a text is true of an equal one
 as_named : (read : List ℕ) (l new : Loading) (t : NamedText) → new.begun ≡ Some (begun.Name t)
@@ -111,7 +63,7 @@ as_named read l new t is h = subst (λ (o : Option Begun). ReadAs o read new) (s
 -- a name's text was begun
 pub named_opened : (read line text : List ℕ) (t : NamedText) (n : ℕ) (l new : Loading)
     → IsAtDirective l.inside (letter_T ∷ line) → l.versioned ≡ true
-    → pair_head_at line ≡ Ok ((t.name, n), text) → length text ≤ n
+    → layout_at pair_line line ≡ Ok ((t.name, n), text) → length text ≤ n
     → t.text.items ≡ text → t.missing ≡ n - length text
     → new ≡ record l { begun = Some (begun.Name t) }
     → HasRead read l → IsRead (read ++ letter_T ∷ line) new
@@ -123,7 +75,7 @@ named_opened read line text t n l new (inr at) v e le items missing is h =
       issued = ap (λ (x : Loading). x.issued.items) is ∙ h.issued;
       within = rw (items, missing) (within_opened read line [] text letter_T (Text t.name) n l new v at.0
           (ap (λ (x : Loading). x.versioned) is) (ap (λ (x : Loading). x.inside) is) le h
-          (text_begins line text t.name n e));
+          (named_begins line text t.name n e));
     })
 
 -- more of it was read

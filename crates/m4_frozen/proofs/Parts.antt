@@ -4,7 +4,6 @@ use Rattle.std.proofs.Common.{[], ◌∷◌, ◌++◌, length, take, Result, Ok,
 use Rattle.std.proofs.Common.{arith, inl, inr, ◌⊎◌}
 use Rattle.std.specs.Prelude.{IsTrue, FitsSigned, ℤ}
 use Rattle.std.specs.Int.{w32}
-use Rattle.std.specs.List.{list_all}
 use Rattle.std.specs.Char.{is_ascii_digit}
 use Rattle.std.proofs.lemmas.List.{take-append-drop, length-take-le, append-nil}
 use Rattle.std.proofs.lemmas.Int.{ints}
@@ -14,31 +13,14 @@ use Rattle.m4_frozen.specs.declared.fault.Refusal.{Refusal}
 use Rattle.m4_frozen.specs.declared.fault.FrozenKind.{FrozenKind}
 use Rattle.m4_frozen.specs.declared.fault.FrozenKind.TheVariants as kinds
 use Rattle.m4_frozen.specs.Spells.{is_blank, AreBlanks, AreDigits, value_of, signed, with_sign}
-use Rattle.m4_frozen.specs.ReaderSteps.{◌>>=◌, refused, skip_blanks, digits_at, some_digits_at, one_at_least}
+use Rattle.m4_frozen.specs.ReaderSteps.{◌>>=◌, Step, refused, skip_blanks, digits_at, some_digits_at}
 use Rattle.m4_frozen.specs.ReaderSteps.{length_at, expect_byte, string_at, magnitude_at, signed_at, version_at}
+use Rattle.m4_frozen.specs.ReaderSteps.{part_at, layout_at}
 use Rattle.m4_frozen.specs.Layout.{Part, Version, Length, Number, Comma, NewLine, String, Value, Layout, Done, Then}
 use Rattle.m4_frozen.specs.Layout.{IsPart, IsEnded, no_digit_first, first_is, IsWrong, IsWrongWithin}
 use Rattle.m4_frozen.proofs.ByteTests.{by_test, test, eq_of, lt_of, ge_of}
 use Rattle.m4_frozen.proofs.Digits.{digits_are}
 use Rattle.m4_frozen.proofs.ReadBack.{magnitude_fits}
-
--- the result of a step: a value and the bytes after it, or a refusal
-abbrev pub Step : Type 0 → Type 0
-Step A = Result (A × List ℕ) Refusal
-
--- a part at the front, as the reader reads it
-abbrev pub part_at : (p : Part) → List ℕ → Step (Value p)
-part_at Version bytes = version_at bytes >>= λ rest. Ok (tt, rest)
-part_at Length bytes = length_at bytes
-part_at Number bytes = signed_at (skip_blanks bytes)
-part_at Comma bytes = expect_byte comma (skip_blanks bytes) >>= λ rest. Ok (tt, rest)
-part_at NewLine bytes = expect_byte newline bytes >>= λ rest. Ok (tt, rest)
-part_at (String n) bytes = string_at n bytes
-
--- all parts of a layout
-abbrev pub layout_at : {A : Type 0} → Layout A → List ℕ → Step A
-layout_at (Done x) bytes = Ok (x, bytes)
-layout_at (Then p after) bytes = part_at p bytes >>= λ v. layout_at (after v.0) v.1
 
 -- the meaning of the result at a part: it is correct, or a row of the table fits
 abbrev pub PartSays : (p : Part) → List ℕ → Step (Value p) → Type 0
@@ -112,21 +94,13 @@ DigitsSay bytes (Err e) =
     × (e.bytes_left ≡ length bytes))
     ⊎ ((e.kind ≡ kinds.PrematureEnd) × (bytes ≡ []) × (e.bytes_left ≡ 0))
 
--- the same of digits that were found
-digits_say_of : (bytes digits rest : List ℕ) → IsTrue (list_all is_ascii_digit digits)
-    → IsTrue (no_digit_first rest) → (bytes ≡ digits ++ rest)
-    → DigitsSay bytes (one_at_least bytes digits rest)
-digits_say_of [] [] rest are apart is = inr (refl, refl, refl)
-digits_say_of (b ∷ bs) [] [] are apart is = absurd cc
-digits_say_of (b ∷ bs) [] (r ∷ rest) are apart is = let e : b ≡ r = cc in
-    inl (refl, rw e apart, refl)
-digits_say_of [] (d ∷ ds) rest are apart is = ((λ e. cc, are), apart, is)
-digits_say_of (b ∷ bs) (d ∷ ds) rest are apart is = ((λ e. cc, are), apart, is)
-
 -- digits are read, or there is none
 pub digits_say : (bytes : List ℕ) → DigitsSay bytes (some_digits_at bytes)
-digits_say bytes = digits_say_of bytes (digits_at bytes).0 (digits_at bytes).1 (digits_are bytes)
-    (has_front bytes).apart (has_front bytes).spelled
+digits_say [] = inr (refl, refl, refl)
+digits_say (b ∷ bs) = let front = has_front (b ∷ bs) in
+    by_test (DigitsSay (b ∷ bs)) (is_ascii_digit b) _ _
+    (λ e. ((rw e (λ k. cc), digits_are (b ∷ bs)), front.apart, front.spelled))
+    (λ e. inl (refl, rw e refl, refl))
 
 -- neither a blank nor a digit
 neither_first : (bytes : List ℕ) → IsTrue (no_blank bytes)

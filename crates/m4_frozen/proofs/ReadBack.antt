@@ -16,11 +16,10 @@ use Rattle.m4_frozen.specs.declared.fault.Refusal.{Refusal}
 use Rattle.m4_frozen.specs.Directive.{Directive, Quotes, Comments, Text, Builtin, Diversion}
 use Rattle.m4_frozen.specs.Spells.{is_blank, AreBlanks, AreDigits, value_of, IsNumber, IsPair, AreSkippedLines}
 use Rattle.m4_frozen.specs.Spells.{SpellsAll, Spells, signed, IsSigned, with_sign, IsDiversion, SpellsOne}
-use Rattle.m4_frozen.specs.Layout.{no_digit_first}
-use Rattle.m4_frozen.specs.ReaderSteps.{skip_blanks, digits_at, some_digits_at, one_at_least, length_at, string_at}
-use Rattle.m4_frozen.specs.ReaderSteps.{pair_head_at, pair_at, with_pair, magnitude_at, signed_at, head_at}
-use Rattle.m4_frozen.specs.ReaderSteps.{diversion_at, directive_at, skip_lines, next_at, directives_at, version_at}
-use Rattle.m4_frozen.specs.ReaderSteps.{file_at}
+use Rattle.m4_frozen.specs.Layout.{Layout, last_string, pair_head, pair_layout, diversion_head, no_digit_first}
+use Rattle.m4_frozen.specs.ReaderSteps.{skip_blanks, digits_at, some_digits_at, length_at, string_at}
+use Rattle.m4_frozen.specs.ReaderSteps.{magnitude_at, signed_at, version_at, layout_at, directive_at, skip_lines}
+use Rattle.m4_frozen.specs.ReaderSteps.{next_at, directives_at, file_at}
 use Rattle.m4_frozen.proofs.SkippedLines.{skip_lines-append, skip_lines-last}
 use Rattle.m4_frozen.proofs.ByteTests.{both_true}
 
@@ -61,8 +60,8 @@ pub some_digits_at-digits : (ds rest : List ℕ) → AreDigits ds → IsTrue (no
     → some_digits_at (ds ++ rest) ≡ Ok (ds, rest)
 some_digits_at-digits [] rest h apart = absurd (h.0 refl)
 some_digits_at-digits (d ∷ ds) rest h apart =
-    ap (λ (p : List ℕ × List ℕ). one_at_least (d ∷ ds ++ rest) p.0 p.1)
-    (digits_at-append (d ∷ ds) rest h.1 apart)
+    let p = both_true (is_ascii_digit d) (list_all is_ascii_digit ds) h.1 in
+    rw (p.0, digits_at-append ds rest p.1 apart) refl
 
 -- a length is read
 pub length_at-number : (n : ℕ) (number rest : List ℕ) → IsNumber n number → n < 2 ^ 64
@@ -128,11 +127,13 @@ comma_apart : (blanks number rest : List ℕ) → AreBlanks blanks
     → IsTrue (no_digit_first (comma_on blanks number rest))
 comma_apart blanks number rest are = skip_apart blanks comma (number ++ newline ∷ rest) are refl
 
--- the first string of a pair and the length of the second are read
-pub pair_head_at-spelled : (n : ℕ) (name : List ℕ) (len : ℕ) (first blanks second rest : List ℕ) → length name ≡ n
+-- the first string of a pair and the length of the second are read before the parts after them
+pub pair_head-spelled : {A : Type 0} (after : List ℕ → ℕ → Layout A) (n : ℕ) (name : List ℕ) (len : ℕ)
+    (first blanks second rest : List ℕ) → length name ≡ n
     → IsNumber n first → n < 2 ^ 64 → AreBlanks blanks → IsNumber len second → len < 2 ^ 64
-    → pair_head_at (first ++ comma_on blanks second (name ++ rest)) ≡ Ok ((name, len), rest)
-pair_head_at-spelled n name len first blanks second rest is number fits are m lt =
+    → layout_at (pair_head after) (first ++ comma_on blanks second (name ++ rest))
+    ≡ layout_at (after name len) rest
+pair_head-spelled after n name len first blanks second rest is number fits are m lt =
     let on : List ℕ = name ++ rest in
     rw (
       length_at-number n first (comma_on blanks second on) number fits (comma_apart blanks second on are),
@@ -141,23 +142,10 @@ pair_head_at-spelled n name len first blanks second rest is number fits are m lt
       string_at-append n name rest is,
     ) refl
 
--- a pair is read after its letter
-pair_at-spelled : (letter : ℕ) (first second bytes rest : List ℕ)
-    → (p : IsPair letter first second bytes)
-    → pair_at (pair_text letter first second bytes p rest) ≡ Ok ((first, second), rest)
-unfolding pair_at
-pair_at-spelled letter first second bytes rest p =
-    let second_on : List ℕ = second ++ newline ∷ rest in
-    let first_on : List ℕ = first ++ second_on in
-    rw (
-      length_at-number (length first) p.first_number (comma_on p.blanks p.second_number first_on)
-          p.first_length p.fits.0 (comma_apart p.blanks p.second_number first_on p.are_blanks),
-      comma_found p.blanks p.second_number first_on p.are_blanks,
-      length_at-number (length second) p.second_number (newline ∷ first_on)
-          p.second_length p.fits.1 refl,
-      string_at-append (length first) first second_on refl,
-      string_at-append (length second) second (newline ∷ rest) refl,
-    ) refl
+-- the last string and its newline are read
+last_string-spelled : {A : Type 0} (make : List ℕ → A) (text rest : List ℕ)
+    → layout_at (last_string make (length text)) (text ++ newline ∷ rest) ≡ Ok (make text, rest)
+last_string-spelled make text rest = rw (string_at-append (length text) text (newline ∷ rest) refl) refl
 
 -- bytes that spell a directive begin with its letter, and the directive is read after it
 pub record IsRead (d : Directive) (bytes rest : List ℕ) : Type 0 where
@@ -171,14 +159,17 @@ pub record IsRead (d : Directive) (bytes rest : List ℕ) : Type 0 where
 pair_is_read : (letter : ℕ) (make : List ℕ → List ℕ → Directive) (first second bytes rest : List ℕ)
     → (p : IsPair letter first second bytes)
     → ((bs : List ℕ) → skip_lines false (letter ∷ bs) ≡ letter ∷ bs)
-    → ((bs : List ℕ) → directive_at letter bs ≡ with_pair make bs)
+    → ((bs : List ℕ) → directive_at letter bs ≡ layout_at (pair_layout make) bs)
     → IsRead (make first second) bytes rest
 pair_is_read letter make first second bytes rest p apart is = record {
   letter = letter;
   after = pair_text letter first second bytes p rest;
   begins = pair_bytes letter first second bytes rest p;
   apart = apart _;
-  gives = is _ ∙ rw (pair_at-spelled letter first second bytes rest p) refl;
+  gives = is _ ∙ pair_head-spelled (λ name. last_string (make name)) (length first) first (length second)
+      p.first_number p.blanks p.second_number (second ++ newline ∷ rest) refl
+      p.first_length p.fits.0 p.are_blanks p.second_length p.fits.1
+      ∙ last_string-spelled (make first) second rest;
 }
 
 -- a number of 32 bits passes the test of its digits
@@ -218,11 +209,13 @@ abbrev diversion_text : (number : ℤ) (text bytes : List ℕ) → IsDiversion n
 diversion_text number text bytes p rest =
     p.first_number ++ comma_on p.blanks p.second_number (text ++ newline ∷ rest)
 
--- the number and the length of a diversion are read
-pub head_at-spelled : (number : ℤ) (len : ℕ) (first blanks second rest : List ℕ) → IsSigned number first
+-- the number and the length of a diversion are read before the parts after them
+pub diversion_head-spelled : {A : Type 0} (after : ℤ → ℕ → Layout A) (number : ℤ) (len : ℕ)
+    (first blanks second rest : List ℕ) → IsSigned number first
     → FitsSigned w32 number → AreBlanks blanks → IsNumber len second → len < 2 ^ 64
-    → head_at (first ++ comma_on blanks second rest) ≡ Ok ((number, len), rest)
-head_at-spelled number len first blanks second rest n fits are m lt =
+    → layout_at (diversion_head after) (first ++ comma_on blanks second rest)
+    ≡ layout_at (after number len) rest
+diversion_head-spelled after number len first blanks second rest n fits are m lt =
     let c : List ℕ = comma_on blanks second rest in
     let start : skip_blanks (first ++ c) ≡ skip_blanks (with_sign n.minus n.digits ++ c) =
     ap (λ (bs : List ℕ). skip_blanks (bs ++ c)) n.spelled
@@ -234,17 +227,6 @@ head_at-spelled number len first blanks second rest n fits are m lt =
           (comma_apart blanks second rest are) n.value fits,
       comma_found blanks second rest are,
       length_at-number len second (newline ∷ rest) m lt refl,
-    ) refl
-
--- a diversion is read after its letter
-diversion_at-spelled : (number : ℤ) (text bytes rest : List ℕ) → (p : IsDiversion number text bytes)
-    → diversion_at (diversion_text number text bytes p rest) ≡ Ok ((number, text), rest)
-unfolding diversion_at
-diversion_at-spelled number text bytes rest p =
-    rw (
-      head_at-spelled number (length text) p.first_number p.blanks p.second_number
-          (text ++ newline ∷ rest) p.number_is p.fits.0 p.are_blanks p.text_length p.fits.1,
-      string_at-append (length text) text (newline ∷ rest) refl,
     ) refl
 
 -- a directive that is spelled is read
@@ -263,7 +245,9 @@ one_is_read (Diversion number text) bytes rest p = record {
   after = diversion_text number text bytes p rest;
   begins = ap (λ (bs : List ℕ). bs ++ rest) p.spelled ∙ simp append_assoc;
   apart = refl;
-  gives = rw (diversion_at-spelled number text bytes rest p) refl;
+  gives = diversion_head-spelled (λ z. last_string (Diversion z)) number (length text) p.first_number p.blanks
+      p.second_number (text ++ newline ∷ rest) p.number_is p.fits.0 p.are_blanks p.text_length p.fits.1
+      ∙ last_string-spelled (Diversion number) text rest;
 }
 
 -- a directive is read after complete lines

@@ -18,7 +18,7 @@ use Rattle.m4_frozen.specs.Denote.{with_directive, issued_by}
 use Rattle.m4_frozen.specs.Directive.{Directive, Text}
 use Rattle.m4_frozen.specs.Outcome.{Loads}
 use Rattle.m4_frozen.specs.Spells.{IsSkippedLine, AreSkippedLines}
-use Rattle.m4_frozen.specs.ReaderSteps.{◌>>=◌, skip_lines, next_at, directive_at, directives_at, after_version}
+use Rattle.m4_frozen.specs.ReaderSteps.{◌>>=◌, Step, skip_lines, next_at, directive_at, directives_at, after_version}
 use Rattle.m4_frozen.specs.ReaderSteps.{file_at, is_settled}
 use Rattle.m4_frozen.proofs.ByteTests.{test}
 use Rattle.m4_frozen.specs.Underway.{IsAtDirective, Skips, with_front, left_at, HasRead, ReadAs, IsTextAt, IsEndOf}
@@ -26,7 +26,6 @@ use Rattle.m4_frozen.specs.Underway.{IsRead, HasReadOne, HasAdvanced, HasPaused,
 use Rattle.m4_frozen.specs.Underway.{Advances, EndsSo, stays}
 use Rattle.m4_frozen.proofs.SkippedLines.{skip_lines-append}
 use Rattle.m4_frozen.proofs.ReadBack.{one_is_read, next_at-spelled, version_at-number}
-use Rattle.m4_frozen.proofs.Parts.{Step}
 use Rattle.m4_frozen.proofs.Spelled.{DirectiveSays, directive_says, StartSays, start_says_of, has_lines, HasLines}
 use Rattle.m4_frozen.proofs.Spelled.{and_nots}
 use Rattle.m4_frozen.proofs.Answered.{read_is_spelled}

@@ -12,12 +12,12 @@ use Rattle.m4_frozen.specs.declared.fault.FrozenKind.{FrozenKind}
 use Rattle.m4_frozen.specs.declared.fault.FrozenKind.TheVariants as kinds
 use Rattle.m4_frozen.specs.Spells.{is_blank, AreBlanks, AreDigits, value_of, signed, with_sign}
 use Rattle.m4_frozen.specs.ReaderSteps.{refused, skip_blanks, some_digits_at, length_at, expect_byte, string_at}
-use Rattle.m4_frozen.specs.ReaderSteps.{signed_at, version_at}
+use Rattle.m4_frozen.specs.ReaderSteps.{signed_at, version_at, part_at, layout_at}
 use Rattle.m4_frozen.specs.Layout.{Part, Version, Length, Number, Comma, NewLine, String, Value, Layout, Done, Then}
 use Rattle.m4_frozen.specs.Layout.{IsPart, IsEnded, no_digit_first, first_is, IsWrongVersion, LacksNumber, IsTooLarge}
 use Rattle.m4_frozen.specs.Layout.{LacksSeparator, NeedsMore, IsMinus, IsWrong, IsWrongWithin}
 use Rattle.m4_frozen.proofs.ByteTests.{test, both_true}
-use Rattle.m4_frozen.proofs.Parts.{part_at, layout_at, fits_of}
+use Rattle.m4_frozen.proofs.Parts.{fits_of}
 use Rattle.m4_frozen.proofs.ReadBack.{skip_blanks-append, skip_blanks-digits, some_digits_at-digits, length_at-number}
 use Rattle.m4_frozen.proofs.ReadBack.{version_at-number, string_at-append, signed_at-digits, digit_is_no_sign}
 

@@ -9,14 +9,14 @@ use Rattle.std.proofs.lemmas.Bool.{lt-ltb}
 use Rattle.m4_frozen.specs.Ascii.{digit_zero}
 use Rattle.m4_frozen.specs.declared.fault.FrozenKind.{FrozenKind}
 use Rattle.m4_frozen.specs.declared.fault.FrozenKind.TheVariants as kinds
-use Rattle.m4_frozen.specs.Spells.{AreDigits, value_of, value_from, signed, with_sign}
+use Rattle.m4_frozen.specs.Spells.{AreDigits, value_of, signed, with_sign}
 use Rattle.m4_frozen.specs.ReaderSteps.{digits_at}
 use Rattle.m4_frozen.specs.Layout.{Part, Version, Length, Number, Comma, NewLine, String, Layout, Done, Then}
 use Rattle.m4_frozen.specs.Layout.{version_layout, IsEnded, no_digit_first, first_is, HasDigits, HasSigned, IsWrong}
 use Rattle.m4_frozen.specs.Layout.{IsWrongWithin}
 use Rattle.m4_frozen.specs.FaultAt.{ExactFault, RowFits, FitsWithin, IsFault}
 use Rattle.m4_frozen.proofs.ByteTests.{both_true, lt_of}
-use Rattle.m4_frozen.proofs.Digits.{digits_are, value_from-ge}
+use Rattle.m4_frozen.proofs.Digits.{digits_are, value_from, value_from-ge}
 use Rattle.m4_frozen.proofs.ReadBack.{magnitude_fits}
 use Rattle.m4_frozen.proofs.Parts.{has_front, fits_of, sign_append}
 
@@ -156,12 +156,10 @@ part_wrong_more kind p before here more firm h = absurd h
 -- a part that has ended stays so
 ended_more : (p : Part) (bytes more : List ℕ) → bytes ≢ [] → IsEnded p bytes
     → IsEnded p (bytes ++ more)
-ended_more Version bytes more h k = apart_more bytes more h k
-ended_more Length bytes more h k = apart_more bytes more h k
-ended_more Number bytes more h k = apart_more bytes more h k
 ended_more Comma bytes more h k = tt
 ended_more NewLine bytes more h k = tt
 ended_more (String n) bytes more h k = tt
+ended_more p bytes more h k = apart_more bytes more h k
 
 -- a layout that is wrong stays wrong
 wrong_more : {A : Type 0} (kind : FrozenKind) (l : Layout A) (before here more : List ℕ)
@@ -201,20 +199,9 @@ row_more kinds.SecondVersion versioned before here more firm h =
     (h.0, h.1, first_is-more _ here more h.2)
 row_more kinds.UnknownDirective versioned before here more firm h =
     (h.0, h.1, first_is-more _ here more h.2)
-row_more kinds.Newer versioned before here more firm h =
-    within_more kinds.Newer versioned before here more firm h
-row_more kinds.VersionZero versioned before here more firm h =
-    within_more kinds.VersionZero versioned before here more firm h
-row_more kinds.DigitExpected versioned before here more firm h =
-    within_more kinds.DigitExpected versioned before here more firm h
-row_more kinds.NumberTooLarge versioned before here more firm h =
-    within_more kinds.NumberTooLarge versioned before here more firm h
-row_more kinds.SeparatorExpected versioned before here more firm h =
-    within_more kinds.SeparatorExpected versioned before here more firm h
-row_more kinds.PrematureEnd versioned before here more firm h =
-    within_more kinds.PrematureEnd versioned before here more firm h
 row_more kinds.Read versioned before here more firm h = absurd h
 row_more kinds.OutOfMemory versioned before here more firm h = absurd h
+row_more kind versioned before here more firm h = within_more kind versioned before here more firm h
 
 -- Whatever follows, a firm fault stays the fault.
 pub firm_stays : (bytes : List ℕ) (fault : ExactFault) → (h : IsFault bytes fault)

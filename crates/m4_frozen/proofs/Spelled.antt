@@ -9,66 +9,18 @@ use Rattle.m4_frozen.specs.Ascii.{newline, hash, letter_C, letter_D, letter_F, l
 use Rattle.m4_frozen.specs.declared.fault.Refusal.{Refusal}
 use Rattle.m4_frozen.specs.declared.fault.FrozenKind.{FrozenKind}
 use Rattle.m4_frozen.specs.declared.fault.FrozenKind.TheVariants as kinds
-use Rattle.m4_frozen.specs.Directive.{Directive, Quotes, Comments, Text, Builtin, Diversion}
+use Rattle.m4_frozen.specs.Directive.{Directive, Quotes, Comments, Text, Builtin}
 use Rattle.m4_frozen.specs.Spells.{IsSkippedLine, IsNumber, IsPair, IsDiversion, SpellsOne, AreSkippedLines}
 use Rattle.m4_frozen.specs.Spells.{SpellsAll, Spells}
-use Rattle.m4_frozen.specs.ReaderSteps.{◌>>=◌, with_pair, pair_at, diversion_at, directive_at, skip_lines, next_at}
-use Rattle.m4_frozen.specs.ReaderSteps.{directives_at, version_at, expect_byte, after_version, file_at}
+use Rattle.m4_frozen.specs.ReaderSteps.{◌>>=◌, Step, refused, layout_at, directive_by, directive_at, skip_lines, next_at}
+use Rattle.m4_frozen.specs.ReaderSteps.{directives_at, after_version, file_at}
 use Rattle.m4_frozen.specs.Layout.{Part, Layout, Done, Then, IsWrong, pair_layout, diversion_layout, version_layout}
 use Rattle.m4_frozen.specs.Layout.{layout_of, IsWrongWithin}
-use Rattle.m4_frozen.specs.FaultAt.{RowFits, IsFault}
+use Rattle.m4_frozen.specs.FaultAt.{RowFits, FitsWithin, IsFault}
 use Rattle.m4_frozen.specs.ReaderSteps.{fault_of}
 use Rattle.m4_frozen.proofs.SkippedLines.{are_skipped, passed_skipped}
 use Rattle.m4_frozen.proofs.ByteTests.{by_test, test, eq_of}
-use Rattle.m4_frozen.proofs.Parts.{Step, by_bind, layout_at, IsSpelled, LayoutSays, layout_says}
-
--- steps in a row need no brackets
-pub bind_assoc : {A B C : Type 0} (r : Result A Refusal) (f : A → Result B Refusal) (g : B
-    → Result C Refusal) → ((r >>= f) >>= g) ≡ (r >>= λ x. (f x >>= g))
-bind_assoc (Ok x) f g = refl
-bind_assoc (Err e) f g = refl
-
--- two strings are read by their layout
-pub pair_is_layout : (make : List ℕ → List ℕ → Directive) (bytes : List ℕ)
-    → with_pair make bytes ≡ layout_at (pair_layout make) bytes
-unfolding pair_at
-pair_is_layout make bytes = simp bind_assoc refl
-
--- a diversion is read by its layout
-pub diversion_is_layout : (bytes : List ℕ)
-    → (diversion_at bytes >>= λ p. Ok (Diversion p.0.0 p.0.1, p.1))
-    ≡ layout_at diversion_layout bytes
-unfolding diversion_at
-diversion_is_layout bytes = simp bind_assoc refl
-
--- nothing, and the bytes after it
-abbrev unit_and : List ℕ → Step (Unit {0})
-unit_and x = Ok (tt, x)
-
--- the bytes after it
-abbrev rest_of : Unit {0} × List ℕ → Result (List ℕ) Refusal
-rest_of v = Ok v.1
-
--- the end of a layout
-abbrev end_of : Unit {0} × List ℕ → Step (Unit {0})
-end_of v = Ok (tt, v.1)
-
--- the end adds nothing
-same_end : (s : Result (List ℕ) Refusal) → s ≡ (((s >>= unit_and) >>= end_of) >>= rest_of)
-same_end (Ok x) = refl
-same_end (Err e) = refl
-
--- the same of any answer at the number
-version_layout_of : (r : Result (List ℕ) Refusal)
-    → (r >>= expect_byte newline)
-    ≡ (((r >>= unit_and) >>= λ v. ((expect_byte newline v.1 >>= unit_and) >>= end_of)) >>= rest_of)
-version_layout_of (Ok x) = same_end (expect_byte newline x)
-version_layout_of (Err e) = refl
-
--- the version is read by its layout
-pub version_is_layout : (bytes : List ℕ)
-    → (version_at bytes >>= expect_byte newline) ≡ (layout_at version_layout bytes >>= λ v. Ok v.1)
-version_is_layout bytes = version_layout_of (version_at bytes)
+use Rattle.m4_frozen.proofs.Parts.{by_bind, IsSpelled, LayoutSays, layout_says}
 
 -- what the layout of a pair spells is a directive with two strings
 pair_spells : (letter : ℕ) (make : List ℕ → List ℕ → Directive)
@@ -152,25 +104,23 @@ never kind (Done x) before here f h = h
 never kind (Then p after) before here f (inl h) = f p before here h
 never kind (Then p after) before here f (inr h) = never kind (after h.0) h.2 here f h.6
 
--- a fault inside a layout is one after the letter
-within : (kind : FrozenKind) (letter : ℕ) (l : Layout Directive) (before here : List ℕ)
-    → layout_of letter ≡ Some l → IsWrongWithin kind l before here
-    → RowFits kind true (letter ∷ before) here
-within kinds.Newer letter l before here e h = (letter, before, refl, (l, e, h))
-within kinds.VersionZero letter l before here e h = (letter, before, refl, (l, e, h))
-within kinds.DigitExpected letter l before here e h = (letter, before, refl, (l, e, h))
-within kinds.NumberTooLarge letter l before here e h = (letter, before, refl, (l, e, h))
-within kinds.SeparatorExpected letter l before here e h = (letter, before, refl, (l, e, h))
-within kinds.PrematureEnd letter l before here e h = (letter, before, refl, (l, e, h))
-within kinds.NoVersion letter l before here e h =
-    absurd (never kinds.NoVersion l before here (λ p b x k. k) h)
-within kinds.SecondVersion letter l before here e h =
-    absurd (never kinds.SecondVersion l before here (λ p b x k. k) h)
-within kinds.UnknownDirective letter l before here e h =
-    absurd (never kinds.UnknownDirective l before here (λ p b x k. k) h)
-within kinds.Read letter l before here e h = never kinds.Read l before here (λ p b x k. k) h
-within kinds.OutOfMemory letter l before here e h = never kinds.OutOfMemory l before here
-    (λ p b x k. k) h
+-- so it is none after a letter
+never_within : (kind : FrozenKind) (versioned : Bool) (before here : List ℕ)
+    → ((p : Part) (b x : List ℕ) → IsWrong kind p b x → ⊥) → FitsWithin kind versioned before here → ⊥
+never_within kind true before here f h = never kind h.3.0 h.1 here f h.3.2
+never_within kind false before here f h = never kind version_layout h.1 here f h.3.1
+
+-- a fault after a letter is a row of the table
+row_of : (kind : FrozenKind) (versioned : Bool) (before here : List ℕ)
+    → FitsWithin kind versioned before here → RowFits kind versioned before here
+row_of kinds.NoVersion v before here h = absurd (never_within kinds.NoVersion v before here (λ p b x k. k) h)
+row_of kinds.SecondVersion v before here h =
+    absurd (never_within kinds.SecondVersion v before here (λ p b x k. k) h)
+row_of kinds.UnknownDirective v before here h =
+    absurd (never_within kinds.UnknownDirective v before here (λ p b x k. k) h)
+row_of kinds.Read v before here h = never_within kinds.Read v before here (λ p b x k. k) h
+row_of kinds.OutOfMemory v before here h = never_within kinds.OutOfMemory v before here (λ p b x k. k) h
+row_of kind v before here h = h
 
 -- what a layout says, its letter says
 by_layout : (letter : ℕ) (l : Layout Directive) (bytes : List ℕ) (r : Step Directive)
@@ -181,7 +131,7 @@ by_layout letter l bytes (Ok v) e f h = (h.0, f v.0 h.0 v.1 h.1, h.2)
 by_layout letter l bytes (Err x) e f h = (
   letter ∷ h.0,
   h.1,
-  within x.kind letter l h.0 h.1 e h.2,
+  row_of x.kind true (letter ∷ h.0) h.1 (letter, h.0, refl, (l, e, h.2)),
   ap (λ (xs : List ℕ). letter ∷ xs) h.3,
   h.4,
 )
@@ -190,18 +140,9 @@ by_layout letter l bytes (Err x) e f h = (
 pair_says : (letter : ℕ) (make : List ℕ → List ℕ → Directive) (bytes : List ℕ)
     → layout_of letter ≡ Some (pair_layout make)
     → ((a b bs : List ℕ) → IsPair letter a b bs → SpellsOne (make a b) bs)
-    → DirectiveSays letter bytes (with_pair make bytes)
-pair_says letter make bytes is view =
-    by_layout letter (pair_layout make) bytes (with_pair make bytes) is
-    (pair_spells letter make view)
-    (rw (pair_is_layout make bytes) (layout_says (pair_layout make) bytes))
-
--- a diversion is read after its letter, or a row of the table fits
-diversion_says : (bytes : List ℕ)
-    → DirectiveSays letter_D bytes (diversion_at bytes >>= λ p. Ok (Diversion p.0.0 p.0.1, p.1))
-diversion_says bytes =
-    by_layout letter_D diversion_layout bytes _ refl diversion_spells
-    (rw (diversion_is_layout bytes) (layout_says diversion_layout bytes))
+    → DirectiveSays letter bytes (layout_at (pair_layout make) bytes)
+pair_says letter make bytes is view = by_layout letter (pair_layout make) bytes _ is
+    (pair_spells letter make view) (layout_says (pair_layout make) bytes)
 
 -- a directive is read, or a row of the table fits
 pub directive_says : (letter : ℕ) (bytes : List ℕ)
@@ -209,7 +150,7 @@ pub directive_says : (letter : ℕ) (bytes : List ℕ)
     → DirectiveSays letter bytes (directive_at letter bytes)
 unfolding directive_at
 directive_says letter bytes no_newline no_hash =
-    let D = DirectiveSays letter bytes in
+    let D = λ (o : Option (Layout Directive)). DirectiveSays letter bytes (directive_by o letter bytes) in
     by_test D (eqb letter letter_Q) _ _
     (λ e. rw (eq_of letter letter_Q e) (pair_says letter_Q Quotes bytes refl (λ a b bs p. p)))
     (λ e1. by_test D (eqb letter letter_C) _ _
@@ -219,8 +160,9 @@ directive_says letter bytes no_newline no_hash =
     (λ e3. by_test D (eqb letter letter_F) _ _
     (λ e. rw (eq_of letter letter_F e) (pair_says letter_F Builtin bytes refl (λ a b bs p. p)))
     (λ e4. by_test D (eqb letter letter_D) _ _
-    (λ e. rw (eq_of letter letter_D e) (diversion_says bytes))
-    (λ e5. by_test D (eqb letter letter_V) _ _
+    (λ e. rw (eq_of letter letter_D e) (by_layout letter_D diversion_layout bytes _ refl diversion_spells
+    (layout_says diversion_layout bytes)))
+    (λ e5. by_test (λ (k : FrozenKind). DirectiveSays letter bytes (refused k (letter ∷ bytes))) (eqb letter letter_V) _ _
     (λ e. ([], letter ∷ bytes, (refl, refl, e), refl, refl))
     (λ e6. (
       [],
@@ -376,43 +318,6 @@ directives_say zero bytes lt = absurd (omega arith)
 directives_say (suc n) bytes lt = directives_say_of n bytes (skip_lines false bytes)
     (λ later less. directives_say n later (omega arith)) (has_lines bytes)
 
--- the version at the front, or the fault there
-abbrev pub VersionSays : List ℕ → Result (List ℕ) Refusal → Type 0
-VersionSays bytes (Ok rest) = (number : List ℕ) × IsNumber 1 number
-    × (bytes ≡ number ++ newline ∷ rest)
-VersionSays bytes (Err e) = (before : List ℕ) × (here : List ℕ)
-    × RowFits e.kind false (letter_V ∷ before) here × (bytes ≡ before ++ here)
-    × (e.bytes_left ≡ length here)
-
--- a fault inside the version is one after `V`
-within_version : (kind : FrozenKind) (before here : List ℕ)
-    → IsWrongWithin kind version_layout before here → RowFits kind false (letter_V ∷ before) here
-within_version kinds.Newer before here h = (letter_V, before, refl, (refl, h))
-within_version kinds.VersionZero before here h = (letter_V, before, refl, (refl, h))
-within_version kinds.DigitExpected before here h = (letter_V, before, refl, (refl, h))
-within_version kinds.NumberTooLarge before here h = (letter_V, before, refl, (refl, h))
-within_version kinds.SeparatorExpected before here h = (letter_V, before, refl, (refl, h))
-within_version kinds.PrematureEnd before here h = (letter_V, before, refl, (refl, h))
-within_version kinds.NoVersion before here h =
-    absurd (never kinds.NoVersion version_layout before here (λ p b x k. k) h)
-within_version kinds.SecondVersion before here h =
-    absurd (never kinds.SecondVersion version_layout before here (λ p b x k. k) h)
-within_version kinds.UnknownDirective before here h =
-    absurd (never kinds.UnknownDirective version_layout before here (λ p b x k. k) h)
-within_version kinds.Read before here h = never kinds.Read version_layout before here
-    (λ p b x k. k) h
-within_version kinds.OutOfMemory before here h = never kinds.OutOfMemory version_layout before here
-    (λ p b x k. k) h
-
--- the version is read after `V`, or a row fits
-version_says : (bytes : List ℕ) → VersionSays bytes (version_at bytes >>= expect_byte newline)
-version_says bytes =
-    rw (version_is_layout bytes) (by_bind (LayoutSays version_layout bytes) (VersionSays bytes)
-    (layout_at version_layout bytes) rest_of (layout_says version_layout bytes)
-    (λ v h. let h1 = h.1 in let h2 = h1.6 in
-    (h1.1, h1.3, rw (h.2, h1.5, h2.5, h2.3, h2.6.1) (simp append_assoc)))
-    (λ e h. (h.0, h.1, within_version e.kind h.0 h.1 h.2, h.3, h.4)))
-
 -- the bytes after the version, or the fault before them
 abbrev pub StartSays : List ℕ → Result (List ℕ) Refusal → Type 0
 StartSays bytes (Ok rest) = (lines : List ℕ) × (number : List ℕ) × AreSkippedLines lines
@@ -432,15 +337,16 @@ start_says_of bytes (b ∷ bs) h =
     by_test (StartSays bytes) (eqb b letter_V) _ _
     (λ f.
     let letter : b ≡ letter_V = eq_of b letter_V f in
-    by_result (VersionSays bs) (StartSays bytes) (version_at bs >>= expect_byte newline)
-    (version_says bs)
-    (λ v k. (h.0, k.0, passed_skipped h.0 h.2, k.1, rw (e, letter, k.2) (simp append_assoc)))
+    by_bind (LayoutSays version_layout bs) (StartSays bytes) (layout_at version_layout bs) _
+    (layout_says version_layout bs)
+    (λ v k. let k1 = k.1 in let k2 = k1.6 in
+    (h.0, k1.1, passed_skipped h.0 h.2, k1.3, rw (e, letter, k.2, k1.5, k2.5, k2.3, k2.6.1) (simp append_assoc)))
     (λ x k. (
       h.0,
       letter_V ∷ k.0,
       k.1,
       passed_skipped h.0 h.2,
-      k.2,
+      row_of x.kind false (letter_V ∷ k.0) k.1 (letter_V, k.0, refl, (refl, k.2)),
       rw (e, letter, k.3) (simp append_assoc),
       k.4,
     )))

@@ -25,17 +25,16 @@ use Rattle.m4_frozen.specs.declared.loading.Loading.{Loading}
 use Rattle.m4_frozen.specs.declared.loading.Pause.{Pause}
 use Rattle.m4_frozen.specs.Denote.{issued_by, denote, with_directive}
 use Rattle.m4_frozen.specs.Directive.{Directive, Diversion}
-use Rattle.m4_frozen.specs.Layout.{Length, Number, Comma, NewLine, Layout, Done, Then}
-use Rattle.m4_frozen.specs.ReaderSteps.{◌>>=◌, string_at, expect_byte, head_at, diversion_at, directive_at}
-use Rattle.m4_frozen.specs.ReaderSteps.{directives_at, file_at}
+use Rattle.m4_frozen.specs.Layout.{NewLine, Layout, Done, Then, last_string, diversion_head, diversion_layout, layout_of}
+use Rattle.m4_frozen.specs.ReaderSteps.{◌>>=◌, Step, string_at, expect_byte, layout_at, directives_at, file_at}
 use Rattle.std.specs.Borrow.{Bor}
 use Rattle.m4_frozen.specs.Underway.{IsAtDirective, with_front, text_left, HasRead, HasReadIn, IsWithinText}
 use Rattle.m4_frozen.specs.Underway.{HasReadText, ReadsText, ReadsRest, ReadAs, IsRead, Advances, EndsSo, ReadsOn}
 use Rattle.m4_frozen.specs.Underway.{short, stays}
 use Rattle.m4_frozen.proofs.ByteTests.{test, lt_of, ge_of, eq_of}
-use Rattle.m4_frozen.proofs.ReadBack.{head_at-spelled, comma_on}
-use Rattle.m4_frozen.proofs.Parts.{Step, layout_at, LayoutSays, layout_says}
-use Rattle.m4_frozen.proofs.Spelled.{bind_assoc}
+use Rattle.m4_frozen.proofs.ReadBack.{diversion_head-spelled, comma_on}
+use Rattle.m4_frozen.proofs.Parts.{LayoutSays, layout_says}
+use Rattle.m4_frozen.proofs.FirstFault.{by_letter, no_line}
 use Rattle.m4_frozen.proofs.ReadOn.{regroup, directives_at-skip, fold-push, stays_after}
 
 -- the last text of a number counts
@@ -108,11 +107,11 @@ abbrev in_front : List ℕ → List ℕ × List ℕ → Step (List ℕ)
 in_front c t = Ok (c ++ t.0, t.1)
 
 -- a directive, and those after it
-abbrev pub then_all : ℕ → Directive → List ℕ → Result (List Directive) Refusal
+abbrev then_all : ℕ → Directive → List ℕ → Result (List Directive) Refusal
 then_all count d rest = directives_at count rest >>= λ ds. Ok (d ∷ ds)
 
 -- a text of which a prefix was read, its newline, and the rest
-abbrev pub then_text : ℕ → (List ℕ → Directive) → List ℕ → List ℕ × List ℕ → Result (List Directive) Refusal
+abbrev then_text : ℕ → (List ℕ → Directive) → List ℕ → List ℕ × List ℕ → Result (List Directive) Refusal
 then_text count make came t = expect_byte newline t.1 >>= then_all count (make (came ++ t.0))
 
 -- the rest of a text after more of it was read
@@ -145,90 +144,87 @@ unfolding text_left string_at
 text_left-short count make came zero = refl
 text_left-short count make came (suc m) = let k : ltb 0 (suc m) ≡ true = lt-ltb _ _ (omega arith) in rw k refl
 
--- the line of a diversion, by its parts
-abbrev head_layout : Layout (ℤ × ℕ)
-head_layout = Then Number (λ z. Then Comma (λ c. Then Length (λ n. Then NewLine (λ e. Done (z, n)))))
+-- the line of a diversion alone
+abbrev pub diversion_line : Layout (ℤ × ℕ)
+diversion_line = diversion_head (λ z n. Done (z, n))
 
-head_is_layout : (bytes : List ℕ) → head_at bytes ≡ layout_at head_layout bytes
-head_is_layout bytes = simp bind_assoc refl
+-- the bytes up to a directive's last string are read so whatever follows them
+pub record HasHead (l : Layout Directive) (make : List ℕ → Directive) (n : ℕ) (bytes rest : List ℕ) : Type 0 where
+  pub one : List ℕ
+  pub spelled : bytes ≡ one ++ rest
+  pub gives : (more : List ℕ) → layout_at l (one ++ more) ≡ layout_at (last_string make n) more
 
--- a line that is read is read so whatever follows it
-record HasHead (bytes : List ℕ) (z : ℤ) (n : ℕ) (rest : List ℕ) : Type 0 where
-  one : List ℕ
-  spelled : bytes ≡ one ++ rest
-  fits : FitsSigned w32 z
-  gives : (more : List ℕ) → head_at (one ++ more) ≡ Ok ((z, n), more)
+-- a diversion's line that is read has a number of 32 bits
+abbrev IsHead : List ℕ → List ℕ → ℤ × ℕ → Type 0
+IsHead bytes rest p = FitsSigned w32 p.0 × HasHead diversion_layout (Diversion p.0) p.1 bytes rest
 
 head_says : (bytes : List ℕ) (z : ℤ) (n : ℕ) (rest : List ℕ) (r : Step (ℤ × ℕ))
-    → LayoutSays head_layout bytes r → r ≡ Ok ((z, n), rest) → HasHead bytes z n rest
+    → LayoutSays diversion_line bytes r → r ≡ Ok ((z, n), rest) → IsHead bytes rest (z, n)
 head_says bytes z n rest r says e =
     let h = rw e at says in
     let h1 = h.1 in
     let h2 = h1.6 in
     let h3 = h2.6 in
     let h4 = h3.6 in
-    let same : (h1.0, h3.0) ≡ (z, n) = h4.6.0 in record {
-      one = h.0;
-      spelled = h.2;
-      fits = subst (λ (p : ℤ × ℕ). FitsSigned w32 p.0) same h1.3.1;
-      gives = λ more.
-          let parts : h.0 ++ more ≡ h1.1 ++ comma_on h2.3.0 h3.1 more =
-          rw (h1.5, h2.5, h2.3.2, h3.5, h4.5, h4.3, h4.6.1) (simp append_assoc) in
-          ap head_at parts
-          ∙ head_at-spelled h1.0 h3.0 h1.1 h2.3.0 h3.1 more h1.3.0 h1.3.1 h2.3.1 h3.3.0 h3.3.1
-          ∙ ap (λ (p : ℤ × ℕ). Ok (p, more)) same;
-    }
+    subst (IsHead bytes rest) h4.6.0 (
+      h1.3.1,
+      record {
+        one = h.0;
+        spelled = h.2;
+        gives = λ more.
+            let parts : h.0 ++ more ≡ h1.1 ++ comma_on h2.3.0 h3.1 more =
+            rw (h1.5, h2.5, h2.3.2, h3.5, h4.5, h4.3, h4.6.1) (simp append_assoc) in
+            ap (layout_at diversion_layout) parts
+            ∙ diversion_head-spelled (λ z. last_string (Diversion z)) h1.0 h3.0 h1.1 h2.3.0 h3.1 more
+            h1.3.0 h1.3.1 h2.3.1 h3.3.0 h3.3.1;
+      },
+    )
 
 -- a diversion's line at the front
-has_head : (bytes : List ℕ) (z : ℤ) (n : ℕ) (rest : List ℕ) → head_at bytes ≡ Ok ((z, n), rest)
-    → HasHead bytes z n rest
+has_head : (bytes : List ℕ) (z : ℤ) (n : ℕ) (rest : List ℕ) → layout_at diversion_line bytes ≡ Ok ((z, n), rest)
+    → IsHead bytes rest (z, n)
 has_head bytes z n rest e =
-    head_says bytes z n rest (layout_at head_layout bytes) (layout_says head_layout bytes)
-    (sym (head_is_layout bytes) ∙ e)
+    head_says bytes z n rest (layout_at diversion_line bytes) (layout_says diversion_line bytes) e
 
 -- its number has 32 bits
-pub head_fits : (bytes : List ℕ) (z : ℤ) (n : ℕ) (rest : List ℕ) → head_at bytes ≡ Ok ((z, n), rest)
+pub head_fits : (bytes : List ℕ) (z : ℤ) (n : ℕ) (rest : List ℕ) → layout_at diversion_line bytes ≡ Ok ((z, n), rest)
     → FitsSigned w32 z
-head_fits bytes z n rest e = (has_head bytes z n rest e).fits
-
--- a diversion's text, and the bytes after its newline
-abbrev with_rest : ℤ → List ℕ → List ℕ → Step (ℤ × List ℕ)
-with_rest z text rest = Ok ((z, text), rest)
-
-abbrev to_newline : ℤ → List ℕ × List ℕ → Step (ℤ × List ℕ)
-to_newline z t = expect_byte newline t.1 >>= with_rest z t.0
-
--- a diversion is a directive
-abbrev as_directive : (ℤ × List ℕ) × List ℕ → Step Directive
-as_directive p = Ok (Diversion p.0.0 p.0.1, p.1)
+head_fits bytes z n rest e = (has_head bytes z n rest e).0
 
 -- a directive comes
-abbrev pub as_next : Directive × List ℕ → Result (Option (Directive × List ℕ)) Refusal
+abbrev as_next : Directive × List ℕ → Result (Option (Directive × List ℕ)) Refusal
 as_next d = Ok (Some d)
 
-abbrev pub after_next : ℕ → Option (Directive × List ℕ) → Result (List Directive) Refusal
+abbrev after_next : ℕ → Option (Directive × List ℕ) → Result (List Directive) Refusal
 after_next count o = elim o [ None ↦ Ok [] | Some d ↦ then_all count d.0 d.1 ]
 
 -- the directives read after the newline of a text
-closed_of : (count : ℕ) (z : ℤ) (text : List ℕ) (r : Result (List ℕ) Refusal)
-    → ((((r >>= with_rest z text) >>= as_directive) >>= as_next) >>= after_next count)
-    ≡ (r >>= then_all count (Diversion z text))
-closed_of count z text (Ok rest) = refl
-closed_of count z text (Err e) = refl
+closed_of : (count : ℕ) (d : Directive) (bytes : List ℕ)
+    → ((layout_at (Then NewLine (λ _. Done d)) bytes >>= as_next) >>= after_next count)
+    ≡ (expect_byte newline bytes >>= then_all count d)
+closed_of count d [] = refl
+closed_of count d (b ∷ bs) = elim (test (eqb b newline)) [ inl e ↦ rw e refl | inr e ↦ rw e refl ]
 
--- and after its line
-opened_of : (count : ℕ) (z : ℤ) (r : Step (List ℕ))
-    → ((((r >>= to_newline z) >>= as_directive) >>= as_next) >>= after_next count)
-    ≡ (r >>= then_text count (Diversion z) [])
-opened_of count z (Ok t) = closed_of count z t.0 (expect_byte newline t.1)
-opened_of count z (Err e) = refl
+-- and after all that is before it
+opened_of : (count : ℕ) (make : List ℕ → Directive) (n : ℕ) (bytes : List ℕ)
+    → ((layout_at (last_string make n) bytes >>= as_next) >>= after_next count) ≡ text_left count make [] n bytes
+unfolding text_left string_at
+opened_of count make n bytes = elim (test (ltb (length bytes) n)) [
+  | inl e ↦ rw e refl
+  | inr e ↦ rw e (closed_of count (make (take n bytes)) (drop n bytes))
+]
 
--- a diversion is read as its text
-opened : (count : ℕ) (z : ℤ) (n : ℕ) (line tail : List ℕ) → head_at line ≡ Ok ((z, n), tail)
-    → directives_at (suc count) (letter_D ∷ line) ≡ text_left count (Diversion z) [] n tail
-unfolding directives_at directive_at diversion_at text_left
-opened count z n line tail e =
-    rw e (opened_of count z (string_at n tail))
+-- a directive is read as its last string, whatever follows
+pub text_begins : (letter : ℕ) (l : Layout Directive) (make : List ℕ → Directive) (n : ℕ) (line text : List ℕ)
+    → layout_of letter ≡ Some l → HasHead l make n line text
+    → (count : ℕ) (more : List ℕ) → directives_at (suc count) (letter ∷ (line ++ more))
+    ≡ text_left count make [] n (text ++ more)
+unfolding directives_at
+text_begins letter l make n line text has k count more =
+    let parts : line ++ more ≡ k.one ++ (text ++ more) =
+    ap (λ (xs : List ℕ). xs ++ more) k.spelled ∙ append_assoc k.one text more in
+    rw (no_line letter l (line ++ more) has, by_letter letter l (line ++ more) has, parts, k.gives (text ++ more))
+    (opened_of count make n (text ++ more))
 
 -- the beginning of a text is read so whatever follows it
 pub within_opened : (read line rest text : List ℕ) (letter : ℕ) (make : List ℕ → Directive) (n : ℕ) (l new : Loading)
@@ -254,20 +250,10 @@ within_opened read line rest text letter make n l new v i nv ni le h begins =
           };
     }
 
--- a head that is read is read so whatever follows it
-diversion_begins : (line text : List ℕ) (z : ℤ) (n : ℕ) → head_at line ≡ Ok ((z, n), text)
-    → (count : ℕ) (more : List ℕ) → directives_at (suc count) (letter_D ∷ (line ++ more))
-    ≡ text_left count (Diversion z) [] n (text ++ more)
-diversion_begins line text z n e count more =
-    let k = has_head line z n text e in
-    let parts : line ++ more ≡ k.one ++ (text ++ more) =
-    ap (λ (xs : List ℕ). xs ++ more) k.spelled ∙ append_assoc k.one text more in
-    opened count z n (line ++ more) (text ++ more) (ap head_at parts ∙ k.gives (text ++ more))
-
 -- a diversion was begun
 pub has_read_opened : (read line text : List ℕ) (z : ℤ) (n : ℕ) (l new : Loading)
     → IsAtDirective l.inside (letter_D ∷ line) → l.versioned ≡ true
-    → head_at line ≡ Ok ((z, n), text) → length text ≤ n
+    → layout_at diversion_line line ≡ Ok ((z, n), text) → length text ≤ n
     → new ≡ record l {
       state = appended (diverted l.state z) text;
       issued = new.issued;
@@ -288,7 +274,7 @@ has_read_opened read line text z n l new (inr at) v e le is i h =
       issued = i ∙ ap (λ (xs : List ℕ). xs ++ issued_by (Diversion z text)) h.issued;
       within = within_opened read line [] text letter_D (Diversion z) n l new v at.0
           (ap (λ (x : Loading). x.versioned) is) (ap (λ (x : Loading). x.inside) is) le h
-          (diversion_begins line text z n e);
+          (text_begins letter_D diversion_layout (Diversion z) n line text refl (has_head line z n text e).1);
     } in
     subst (λ (o : Option Begun). ReadAs o (read ++ here) new) (sym open_now) r
 

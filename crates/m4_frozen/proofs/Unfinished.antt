@@ -5,7 +5,7 @@ use Rattle.m4_frozen.specs.declared.fault.FrozenKind.TheVariants as kinds
 use Rattle.m4_frozen.specs.FaultAt.{FaultAt}
 use Rattle.m4_frozen.specs.Laws.{IsOnlyRead, IsOnlyRefused, IsRefusedAtOnce}
 use Rattle.m4_frozen.specs.Unfinished.{is_marked}
-use Rattle.m4_frozen.specs.ReaderSteps.{file_at, length_at, version_at, string_at, pair_at, diversion_at, directive_at, directives_at}
+use Rattle.m4_frozen.specs.ReaderSteps.{file_at, length_at, version_at, string_at, directive_at, directives_at}
 use Rattle.std.proofs.lemmas.Bool.{eqb-true}
 use Rattle.m4_frozen.proofs.Answered.{refusal_is_fault, one_answer}
 use Rattle.m4_frozen.proofs.Examples.{empty_file}
@@ -14,7 +14,7 @@ minus_self : (n : ℕ) → n - n ≡ 0
 minus_self n = omega arith
 
 zero_fault : (bs : List ℕ) → FaultAt (0 ∷ bs) (record { kind = kinds.NoVersion; offset = 0 })
-unfolding file_at length_at version_at string_at pair_at diversion_at directive_at directives_at
+unfolding file_at length_at version_at string_at directive_at directives_at
 zero_fault bs =
     subst (λ (n : ℕ). FaultAt (0 ∷ bs) (record { kind = kinds.NoVersion; offset = n })) (minus_self (length (0 ∷ bs)))
     (refusal_is_fault (record { kind = kinds.NoVersion; bytes_left = length (0 ∷ bs) }) (0 ∷ bs) refl)

@@ -148,15 +148,9 @@ row_end kinds.NoVersion versioned before (e, inl h) = absurd (let k = h.1 in cc)
 row_end kinds.NoVersion versioned before (e, inr h) = inr (refl, e, h.0)
 row_end kinds.SecondVersion versioned before h = absurd (let k = h.2 in cc)
 row_end kinds.UnknownDirective versioned before h = absurd (let k = h.2 in cc)
-row_end kinds.Newer versioned before h = within_end kinds.Newer versioned before h
-row_end kinds.VersionZero versioned before h = within_end kinds.VersionZero versioned before h
-row_end kinds.DigitExpected versioned before h = within_end kinds.DigitExpected versioned before h
-row_end kinds.NumberTooLarge versioned before h = within_end kinds.NumberTooLarge versioned before h
-row_end kinds.SeparatorExpected versioned before h =
-    within_end kinds.SeparatorExpected versioned before h
-row_end kinds.PrematureEnd versioned before h = inl refl
 row_end kinds.Read versioned before h = absurd h
 row_end kinds.OutOfMemory versioned before h = absurd h
+row_end kind versioned before h = within_end kind versioned before h
 
 -- where a byte is missing, one more moves the fault
 short_unsettled : (bytes : List ℕ) (fault : ExactFault) → (h : IsFault bytes fault) → h.here ≡ []

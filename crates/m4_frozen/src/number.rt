@@ -66,14 +66,11 @@ fn some_digits(bytes: &[u8]) -> Result<(&[u8], &[u8]), Refusal>
     ensures gives { Gives (λ x. (x.0.now, x.1.now)) result (steps.some_digits_at bytes.now) }
     ensures are { IfOk result (λ x. IsTrue (list_all is_ascii_digit x.0.now)) }
 {
-    let (found, rest) = digits(bytes);
-    if !found.is_empty() {
-        return Ok((found, rest));
+    match bytes {
+        [] => Err(refused_at(FrozenKind::PrematureEnd, bytes)),
+        [first, ..] if first.is_ascii_digit() => Ok(digits(bytes)),
+        [..] => Err(refused_at(FrozenKind::DigitExpected, bytes)),
     }
-    if bytes.is_empty() {
-        return Err(refused_at(FrozenKind::PrematureEnd, bytes));
-    }
-    Err(refused_at(FrozenKind::DigitExpected, bytes))
 }
 
 /// Reads the length of a string; returns it and the bytes after it. Most lengths have few digits and no blanks before

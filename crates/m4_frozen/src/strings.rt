@@ -5,7 +5,9 @@
 //! Contracts cite the reader's own steps, `specs/ReaderSteps.antt`.
 //! Manual: "Frozen file format".
 
-ghost use Rattle.std.specs.Prelude.{◌≡◌, ◌≤◌, IfOk, length, take, drop};
+ghost use Rattle.std.specs.Prelude.{◌≡◌, ◌≤◌, ℕ, ℤ, List, IfOk, length, take, drop};
+ghost use Rattle.m4_frozen.specs.Directive as directives;
+ghost use Rattle.m4_frozen.specs.Layout as layouts;
 ghost use Rattle.m4_frozen.specs.ReaderSteps as steps;
 ghost use Rattle.m4_frozen.specs.StepOutcome.{Gives};
 
@@ -37,7 +39,8 @@ fn string(len: u64, bytes: &[u8]) -> Result<(&[u8], &[u8]), Refusal>
 
 /// Reads two lengths and the first string; returns it, the second length and the bytes after it.
 pub(crate) fn pair_head(bytes: &[u8]) -> Result<((&[u8], u64), &[u8]), Refusal>
-    ensures { Gives (λ x. ((x.0.0.now, x.0.1), x.1.now)) result (steps.pair_head_at bytes.now) }
+    ensures { Gives (λ x. ((x.0.0.now, x.0.1), x.1.now)) result
+        (steps.layout_at {A = List ℕ × ℕ} (layouts.pair_head (λ first n. layouts.Done (first, n))) bytes.now) }
 {
     let (n, rest) = length(bytes)?;
     let rest = expect_byte(b',', skip_blanks(rest))?;
@@ -49,10 +52,10 @@ pub(crate) fn pair_head(bytes: &[u8]) -> Result<((&[u8], u64), &[u8]), Refusal>
 
 /// Reads two lengths and both strings; returns the strings as one slice, the length of the first, and
 /// the bytes after them.
-#[tactic(auto, unfolding(crate::specs::ReaderSteps::pair_at, crate::specs::ReaderSteps::string_at))]
+#[tactic(auto, unfolding(crate::specs::ReaderSteps::string_at))]
 pub(crate) fn joined_pair(bytes: &[u8]) -> Result<((&[u8], usize), &[u8]), Refusal>
     ensures gives { Gives (λ x. ((take x.0.1 x.0.0.now, drop x.0.1 x.0.0.now), x.1.now)) result
-        (steps.pair_at bytes.now) }
+        (steps.layout_at {A = List ℕ × List ℕ} (layouts.pair_layout (λ first second. (first, second))) bytes.now) }
     ensures within { IfOk result (λ x. x.0.1 ≤ length x.0.0.now) }
 {
     let (n, rest) = length(bytes)?;
@@ -68,7 +71,8 @@ pub(crate) fn joined_pair(bytes: &[u8]) -> Result<((&[u8], usize), &[u8]), Refus
 
 /// Reads two lengths and both strings; returns the strings and the bytes after them.
 pub(crate) fn pair(bytes: &[u8]) -> Result<((&[u8], &[u8]), &[u8]), Refusal>
-    ensures { Gives (λ x. ((x.0.0.now, x.0.1.now), x.1.now)) result (steps.pair_at bytes.now) }
+    ensures { Gives (λ x. ((x.0.0.now, x.0.1.now), x.1.now)) result
+        (steps.layout_at {A = List ℕ × List ℕ} (layouts.pair_layout (λ first second. (first, second))) bytes.now) }
 {
     let ((both, middle), rest) = joined_pair(bytes)?;
     Ok((both.split_at(middle), rest))
@@ -76,7 +80,8 @@ pub(crate) fn pair(bytes: &[u8]) -> Result<((&[u8], &[u8]), &[u8]), Refusal>
 
 /// Reads a diversion's number and the length of its text; returns both and the bytes after their line.
 pub(crate) fn diversion_head(bytes: &[u8]) -> Result<((i32, u64), &[u8]), Refusal>
-    ensures { Gives (λ x. ((x.0.0, x.0.1), x.1.now)) result (steps.head_at bytes.now) }
+    ensures { Gives (λ x. ((x.0.0, x.0.1), x.1.now)) result
+        (steps.layout_at {A = ℤ × ℕ} (layouts.diversion_head (λ number n. layouts.Done (number, n))) bytes.now) }
 {
     let (number, rest) = signed_number(skip_blanks(bytes))?;
     let rest = expect_byte(b',', skip_blanks(rest))?;
@@ -86,9 +91,9 @@ pub(crate) fn diversion_head(bytes: &[u8]) -> Result<((i32, u64), &[u8]), Refusa
 }
 
 /// Reads a diversion's number, a length and the string; returns them and the bytes after them.
-#[tactic(auto, unfolding(crate::specs::ReaderSteps::diversion_at))]
 pub(crate) fn diversion(bytes: &[u8]) -> Result<((i32, &[u8]), &[u8]), Refusal>
-    ensures { Gives (λ x. ((x.0.0, x.0.1.now), x.1.now)) result (steps.diversion_at bytes.now) }
+    ensures { Gives (λ x. (directives.Diversion x.0.0 x.0.1.now, x.1.now)) result
+        (steps.layout_at layouts.diversion_layout bytes.now) }
 {
     let ((number, n), rest) = diversion_head(bytes)?;
     let (text, rest) = string(n, rest)?;
