@@ -59,8 +59,8 @@ fn call_of(alloc: Global, name: &str, given: &[Argument]) -> Result<Args, AllocE
     })
 }
 
-// Makes a call of a name with these texts.
-fn text_call_of(alloc: Global, name: &str, texts: &[&str]) -> Result<Args, AllocError>
+/// Makes a call of a name with these texts.
+pub fn text_call_of(alloc: Global, name: &str, texts: &[&str]) -> Result<Args, AllocError>
     ensures { IfOk result (λ a. AllByRecursion IsArg a.list) }
 {
     let mut items = Vec::new(alloc);

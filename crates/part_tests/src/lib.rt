@@ -17,6 +17,7 @@ mod frozen;
 mod given;
 #[cfg(test)]
 mod input;
+pub mod names_of_m4;
 #[cfg(test)]
 mod refused;
 pub mod report;

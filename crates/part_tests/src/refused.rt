@@ -1,12 +1,17 @@
 //! The calls of each crate where a request for memory is refused: what they leave is as it was before.
 //!
-//! What a call is given is made first; where that is refused, the call is passed over. Comparing needs no memory.
-//! `tests/refused_growths` refuses each request in turn, and reads how many calls were refused.
+//! What a call is given is made first; where that is refused, the call is passed over, and so it is where what it left
+//! could not be compared. `tests/refused_growths` refuses each request in turn, and reads how many calls were refused.
 
+ghost use Rattle.std.specs.Prelude.{IfSome};
+ghost use Rattle.m4_state.specs.Definition.{IsDefinition};
+
+use crate::builtins::text_call_of;
 use m4_builtins::act::act;
-use m4_builtins::args::{Arg, ArgList, Args};
+use m4_builtins::effect::Effect;
 use m4_builtins::fault::BuiltinFault;
 use m4_builtins::place::Place;
+use m4_builtins::substitute::substitute;
 use m4_frozen::fault::{FrozenFault, FrozenKind, WriteFault};
 use m4_frozen::inspector::list;
 use m4_frozen::reading::read_frozen;
@@ -19,17 +24,26 @@ use m4_input::token::Token;
 use m4_state::builtin::Builtin;
 use m4_state::bytes::Bytes;
 use m4_state::definition::Def;
+use m4_state::fault::StateFault;
 use m4_state::memory::{MemSink, MemSource};
 use m4_state::state::State;
-use std::alloc::Global;
+use std::alloc::{AllocError, Global};
 use std::process::Abort;
 
 // A name and texts that are too long to be held in place.
-const NAME: &[u8] = b"a_name_of_more_than_thirty_letters";
+const NAME: &str = "a_name_of_more_than_thirty_letters";
 
-const FIRST: &[u8] = b"the text of its first definition, of more than thirty bytes";
+const FIRST: &str = "the text of its first definition, of more than thirty bytes";
 
-const SECOND: &[u8] = b"the text of its second definition, of more than thirty bytes";
+const SECOND: &str = "the text of its second definition, of more than thirty bytes";
+
+const OTHER: &str = "another_name_of_more_than_thirty_letters";
+
+const FILE: &str = "a_file_of_more_than_thirty_letters.m4";
+
+const WARNING: &[u8] = b"m4:a_file_of_more_than_thirty_letters.m4:1: Warning: ";
+
+const REST: &[u8] = b"text of its first definition, of more than thirty bytes";
 
 const FROZEN: &[u8] = b"V1\nT2,3\nabcde\nD2,4\ntwo\n\n";
 
@@ -62,127 +76,292 @@ fn judged(refused: bool, before: bool, after: bool) -> Left {
     }
 }
 
-/// Ends the test if a call left anything else, and prints how many were refused.
+/// Ends the test if a call left anything else. Returns how many calls were refused: one or none.
+fn judge(rt: &impl Abort, name: &str, outcome: Outcome) -> u32 {
+    match outcome {
+        Some(Left::Before) => 1,
+        Some(Left::Wrong) => panic!(rt; "{name}: neither what was there nor the result"),
+        Some(Left::After) | None => 0,
+    }
+}
+
+/// Judges each call, and prints how many were refused.
 fn count(rt: &(impl Abort + Print), outcomes: &[(&str, Outcome)]) {
     let mut refused = 0u32;
     for &(name, outcome) in outcomes {
-        match outcome {
-            Some(Left::Before) => refused = refused.saturating_add(1),
-            Some(Left::Wrong) => panic!(rt; "{name}: neither what was there nor the result"),
-            Some(Left::After) | None => {}
-        }
+        refused = refused.saturating_add(judge(rt, name, outcome));
     }
     let _printed = println!(rt; "{refused} broke off");
 }
 
-/// Returns whether a name has one definition, which is this text.
-fn has_one(state: &State, text: &[u8]) -> bool {
-    match state.stack(NAME) {
-        [Def::Text(found)] => found.as_slice() == text,
+// Makes a definition that is a text.
+fn text_of(alloc: Global, text: &[u8]) -> Option<Def>
+    ensures { IfSome result IsDefinition }
+{
+    match Bytes::from_slice(alloc, text) {
+        Ok(bytes) => Some(Def::Text(bytes)),
+        Err(AllocError) => None,
+    }
+}
+
+// Returns a state with something in each of its parts: a name with two definitions, and a builtin; delimiters that are
+// too long to be held in place; and two diversions. This number is current.
+fn prepared(alloc: Global, current: i32) -> Option<State> {
+    let mut state = State::empty(alloc).ok()?;
+    let name = Bytes::from_slice(alloc, NAME.as_bytes()).ok()?;
+    let shared = name.share().ok()?;
+    state.push(name, text_of(alloc, FIRST.as_bytes())?).ok()?;
+    state.push(shared, text_of(alloc, SECOND.as_bytes())?).ok()?;
+    let cut = Bytes::from_slice(alloc, b"cut").ok()?;
+    state.push(cut, Def::Builtin(Builtin::Shift)).ok()?;
+    if set_long(alloc, &mut state, true, false)? || set_long(alloc, &mut state, false, false)? {
+        return None;
+    }
+    divert_to(&mut state, 1, FIRST.as_bytes())?;
+    divert_to(&mut state, 3, SECOND.as_bytes())?;
+    state.divert(current);
+    Some(state)
+}
+
+// Adds text to a diversion; none if that is refused.
+fn divert_to(state: &mut State, number: i32, text: &[u8]) -> Option<()> {
+    state.divert(number);
+    state.append(text).ok()
+}
+
+// Sets quotes or comment delimiters that are too long to be held in place, in this order or the other one. Returns
+// whether that is refused; none if they could not be made.
+fn set_long(alloc: Global, state: &mut State, quotes: bool, turned: bool) -> Option<bool> {
+    let (begin, end) = long_pair(turned);
+    let begin = Bytes::from_slice(alloc, begin).ok()?;
+    let end = Bytes::from_slice(alloc, end).ok()?;
+    Some(if quotes {
+        state.set_quotes(begin, end).is_err()
+    } else {
+        state.set_comments(begin, end).is_err()
+    })
+}
+
+fn long_pair(turned: bool) -> (&'static [u8], &'static [u8]) {
+    if turned {
+        (SECOND.as_bytes(), FIRST.as_bytes())
+    } else {
+        (FIRST.as_bytes(), SECOND.as_bytes())
+    }
+}
+
+// Returns whether two definitions are the same.
+fn is_equal(one: &Def, other: &Def) -> bool {
+    match (one, other) {
+        (Def::Text(one), Def::Text(other)) => one.as_slice() == other.as_slice(),
+        (Def::Builtin(one), Def::Builtin(other)) => one.name() == other.name(),
+        (Def::Placeholder(one), Def::Placeholder(other)) => one.as_slice() == other.as_slice(),
         _ => false,
     }
 }
 
-/// Returns whether a name has both definitions.
-fn has_both(state: &State) -> bool {
-    match state.stack(NAME) {
-        [Def::Text(first), Def::Text(second)] => {
-            first.as_slice() == FIRST && second.as_slice() == SECOND
+// Returns whether these are the same definitions, in their order.
+fn are_equal(some: &[Def], others: &[Def]) -> bool {
+    let mut equal = some.len() == others.len();
+    let mut rest = others;
+    for one in some {
+        match rest.split_first() {
+            Some((first, after)) => {
+                equal = equal && is_equal(one, first);
+                rest = after;
+            }
+            None => equal = false,
         }
-        _ => false,
+    }
+    equal
+}
+
+// Returns whether two states have one record: names and definitions, delimiters, diversions and the current number.
+// None if their names could not be listed.
+fn are_same(one: &State, other: &State) -> Option<bool> {
+    let named = one.definitions().ok()?;
+    let mut same = other.definitions().ok()?.len() == named.len();
+    for entry in &named {
+        same = same && are_equal(entry.stack(), other.stack(entry.name()));
+    }
+    let mut number = Some(0);
+    for _ in 0..5 {
+        if let Some(n) = number {
+            number = one.next_diversion(n);
+            same = same
+                && number == other.next_diversion(n)
+                && one.diversion(n) == other.diversion(n);
+        }
+    }
+    let delimiters = one.quotes() == other.quotes() && one.comments() == other.comments();
+    Some(same && number.is_none() && delimiters && one.current() == other.current())
+}
+
+// A call that changes a state.
+#[derive(Clone, Copy)]
+enum Change {
+    // Defines a name that has no definition.
+    Define,
+    // Pushes a third definition.
+    Push,
+    // Undiverts text into another diversion, or to the output.
+    Undivert,
+    Issue,
+    // Adds text to a diversion that has none.
+    Append,
+    Quotes,
+    Comments,
+}
+
+// Makes a call, and returns whether it is refused; none if what it is given could not be made.
+fn make(alloc: Global, state: &mut State, change: Change) -> Option<bool> {
+    match change {
+        Change::Define => {
+            let name = Bytes::from_slice(alloc, OTHER.as_bytes()).ok()?;
+            Some(
+                state
+                    .define(name, text_of(alloc, FIRST.as_bytes())?)
+                    .is_err(),
+            )
+        }
+        Change::Push => {
+            let name = Bytes::from_slice(alloc, NAME.as_bytes()).ok()?;
+            Some(state.push(name, text_of(alloc, FIRST.as_bytes())?).is_err())
+        }
+        Change::Undivert => Some(state.undivert(1).is_err()),
+        Change::Issue => match state.undivert(1) {
+            Ok(Some(text)) => Some(text.as_slice() != FIRST.as_bytes()),
+            Ok(None) => None,
+            Err(_) => Some(true),
+        },
+        Change::Append => Some(state.append(FIRST.as_bytes()).is_err()),
+        Change::Quotes => set_long(alloc, state, true, true),
+        Change::Comments => set_long(alloc, state, false, true),
     }
 }
 
-// Defines a name that has no definition.
-fn defined(alloc: Global) -> Outcome {
-    let mut state = State::empty(alloc).ok()?;
-    let name = Bytes::from_slice(alloc, NAME).ok()?;
-    let text = Def::Text(Bytes::from_slice(alloc, FIRST).ok()?);
-    let refused = state.define(name, text).is_err();
-    let none = state.stack(NAME).is_empty();
-    Some(judged(refused, none, has_one(&state, FIRST)))
-}
-
-// Pushes a second definition.
-fn pushed(alloc: Global) -> Outcome {
-    let mut state = State::empty(alloc).ok()?;
-    let first = Bytes::from_slice(alloc, NAME).ok()?;
-    let text = Def::Text(Bytes::from_slice(alloc, FIRST).ok()?);
-    state.push(first, text).ok()?;
-    let second = Bytes::from_slice(alloc, NAME).ok()?;
-    let text = Def::Text(Bytes::from_slice(alloc, SECOND).ok()?);
-    let refused = state.push(second, text).is_err();
-    Some(judged(refused, has_one(&state, FIRST), has_both(&state)))
-}
-
-// Adds text to a diversion, and undiverts it into another one.
-fn moved(alloc: Global) -> Outcome {
-    let mut state = State::empty(alloc).ok()?;
-    state.divert(1);
-    state.append(FIRST).ok()?;
-    state.divert(2);
-    let refused = state.undivert(1).is_err();
-    let before = state.diversion(1) == FIRST && state.diversion(2).is_empty();
-    let after = state.diversion(1).is_empty() && state.diversion(2) == FIRST;
-    Some(judged(refused, before, after))
-}
-
-// Adds text to a diversion that has none.
-fn appended(alloc: Global) -> Outcome {
-    let mut state = State::empty(alloc).ok()?;
-    state.divert(1);
-    let refused = state.append(FIRST).is_err();
-    let none = state.diversion(1).is_empty();
-    Some(judged(refused, none, state.diversion(1) == FIRST))
-}
-
-// Undiverts text where it is output.
-fn issued(alloc: Global) -> Outcome {
-    let mut state = State::empty(alloc).ok()?;
-    state.divert(1);
-    state.append(FIRST).ok()?;
-    state.divert(0);
-    let answer = state.undivert(1);
-    let refused = answer.is_err();
-    let before = state.diversion(1) == FIRST;
-    let after = match answer {
-        Ok(Some(text)) => state.diversion(1).is_empty() && text.as_slice() == FIRST,
-        _ => false,
-    };
-    Some(judged(refused, before, after))
-}
-
-// Sets quotes that are too long to be held in place, or comment delimiters.
-fn delimited(alloc: Global, quotes: bool) -> Outcome {
-    let mut state = State::empty(alloc).ok()?;
-    let begin = Bytes::from_slice(alloc, FIRST).ok()?;
-    let end = Bytes::from_slice(alloc, SECOND).ok()?;
-    let given: (&[u8], &[u8]) = (FIRST, SECOND);
-    if quotes {
-        let refused = state.set_quotes(begin, end).is_err();
-        let before = state.quotes() == (b"`", b"'");
-        return Some(judged(refused, before, state.quotes() == given));
+// Returns whether a state has what a call was to leave.
+fn is_made(state: &State, change: Change) -> bool {
+    match change {
+        Change::Define => are_texts(state.stack(OTHER.as_bytes()), &[FIRST.as_bytes()]),
+        Change::Push => are_texts(
+            state.stack(NAME.as_bytes()),
+            &[FIRST.as_bytes(), SECOND.as_bytes(), FIRST.as_bytes()],
+        ),
+        Change::Undivert => state.diversion(1).is_empty() && state.diversion(2) == FIRST.as_bytes(),
+        Change::Issue => state.diversion(1).is_empty() && state.diversion(2).is_empty(),
+        Change::Append => state.diversion(2) == FIRST.as_bytes(),
+        Change::Quotes => state.quotes() == long_pair(true),
+        Change::Comments => state.comments() == long_pair(true),
     }
-    let refused = state.set_comments(begin, end).is_err();
-    let before = state.comments() == (b"#", b"\n");
-    Some(judged(refused, before, state.comments() == given))
+}
+
+// Returns whether these definitions are these texts.
+fn are_texts(definitions: &[Def], texts: &[&[u8]]) -> bool {
+    let mut equal = definitions.len() == texts.len();
+    let mut rest = texts;
+    for one in definitions {
+        match (one, rest.split_first()) {
+            (Def::Text(text), Some((first, after))) => {
+                equal = equal && text.as_slice() == *first;
+                rest = after;
+            }
+            _ => equal = false,
+        }
+    }
+    equal
+}
+
+// Makes a call on a state where this number is current. A refusal leaves the whole record.
+fn changed(alloc: Global, change: Change, current: i32) -> Outcome {
+    let mut state = prepared(alloc, current)?;
+    let twin = prepared(alloc, current)?;
+    let refused = make(alloc, &mut state, change)?;
+    let same = are_same(&state, &twin)?;
+    Some(judged(refused, same, is_made(&state, change)))
 }
 
 // Lists the names. A refusal changes no state, and leaves no list.
 fn named(alloc: Global) -> Outcome {
-    let mut state = State::empty(alloc).ok()?;
-    let name = Bytes::from_slice(alloc, NAME).ok()?;
-    let text = Def::Text(Bytes::from_slice(alloc, FIRST).ok()?);
-    state.define(name, text).ok()?;
+    let (state, twin) = (prepared(alloc, 0)?, prepared(alloc, 0)?);
     let names = state.names();
-    let stays = has_one(&state, FIRST);
+    let stays = are_same(&state, &twin)?;
     match names {
         Ok(found) => match found.as_slice() {
-            [only] => Some(judged(false, false, stays && only.as_slice() == NAME)),
+            [first, second] => {
+                let found = first.as_slice() == NAME.as_bytes()
+                    && second.as_slice() == b"cut".as_slice();
+                Some(judged(false, false, stays && found))
+            }
             _ => Some(Left::Wrong),
         },
         Err(_) => Some(judged(true, stays, false)),
     }
+}
+
+// Makes the fresh state, with prefixes.
+fn fresh(alloc: Global) -> Outcome {
+    match State::fresh(alloc, true) {
+        Ok(state) => {
+            let found = state.stack(b"m4_define").len() == 1 && state.stack(b"define").is_empty();
+            Some(judged(false, false, found && state.current() == 0))
+        }
+        Err(StateFault::OutOfMemory) => Some(Left::Before),
+    }
+}
+
+// Copies bytes that are too long to be held in place.
+fn copied(alloc: Global) -> Outcome {
+    match Bytes::from_slice(alloc, FIRST.as_bytes()) {
+        Ok(bytes) => Some(judged(false, false, bytes.as_slice() == FIRST.as_bytes())),
+        Err(AllocError) => Some(Left::Before),
+    }
+}
+
+// Makes bytes of a buffer.
+fn kept(alloc: Global) -> Outcome {
+    let buffer = Vec::from_slice(alloc, FIRST.as_bytes()).ok()?;
+    match Bytes::from_vec(buffer) {
+        Ok(bytes) => Some(judged(false, false, bytes.as_slice() == FIRST.as_bytes())),
+        Err(AllocError) => Some(Left::Before),
+    }
+}
+
+// Shares bytes, or a part of them. What they are made from stays.
+fn shared(alloc: Global, part: bool) -> Outcome {
+    let bytes = Bytes::from_slice(alloc, FIRST.as_bytes()).ok()?;
+    let answer = if part { part_of(&bytes) } else { bytes.share() };
+    let stays = bytes.as_slice() == FIRST.as_bytes();
+    match answer {
+        Ok(other) => {
+            let whole: &[u8] = if part { REST } else { FIRST.as_bytes() };
+            Some(judged(false, false, stays && other.as_slice() == whole))
+        }
+        Err(AllocError) => Some(judged(true, stays, false)),
+    }
+}
+
+// Returns all but the first four bytes, or nothing if there are not so many.
+fn part_of(bytes: &Bytes) -> Result<Bytes, AllocError> {
+    let len = bytes.as_slice().len();
+    if len < 4 {
+        return Ok(Bytes::empty());
+    }
+    bytes.part(4, len - 4)
+}
+
+#[test]
+fn bytes_stay(rt: HostRuntime) {
+    let alloc = rt.alloc();
+    count(
+        &rt,
+        &[
+            ("from_slice", copied(alloc)),
+            ("from_vec", kept(alloc)),
+            ("share", shared(alloc, false)),
+            ("part", shared(alloc, true)),
+        ],
+    );
 }
 
 #[test]
@@ -191,14 +370,15 @@ fn states_stay(rt: HostRuntime) {
     count(
         &rt,
         &[
-            ("define", defined(alloc)),
-            ("push", pushed(alloc)),
-            ("undivert", moved(alloc)),
-            ("undivert to the output", issued(alloc)),
-            ("append", appended(alloc)),
-            ("set_quotes", delimited(alloc, true)),
-            ("set_comments", delimited(alloc, false)),
+            ("define", changed(alloc, Change::Define, 0)),
+            ("push", changed(alloc, Change::Push, 0)),
+            ("undivert", changed(alloc, Change::Undivert, 2)),
+            ("undivert to the output", changed(alloc, Change::Issue, 0)),
+            ("append", changed(alloc, Change::Append, 2)),
+            ("set_quotes", changed(alloc, Change::Quotes, 0)),
+            ("set_comments", changed(alloc, Change::Comments, 0)),
             ("names", named(alloc)),
+            ("fresh", fresh(alloc)),
         ],
     );
 }
@@ -274,7 +454,7 @@ fn put_in_front(alloc: Global) -> Outcome {
     let state = State::empty(alloc).ok()?;
     let mut input = Input::file(alloc, Bytes::from_slice(alloc, b"a.m4").ok()?);
     let mut reader = MemSource::new(b"file ", 4096, false);
-    let text = Bytes::from_slice(alloc, NAME).ok()?;
+    let text = Bytes::from_slice(alloc, NAME.as_bytes()).ok()?;
     let refused = input.push_front(Pushed::Text(text)).is_err();
     let wanted: &[u8] = if refused {
         b"file"
@@ -311,7 +491,7 @@ fn taken(alloc: Global) -> Outcome {
     let mut input = Input::file(alloc, Bytes::from_slice(alloc, b"a.m4").ok()?);
     let mut reader = MemSource::new(b"a_name_of_more_than_thirty_letters ", 4096, false);
     match input.next(&mut reader, &delims) {
-        Ok(Token::Name(found)) => Some(judged(false, false, found.as_slice() == NAME)),
+        Ok(Token::Name(found)) => Some(judged(false, false, found.as_slice() == NAME.as_bytes())),
         Err(InputFault::OutOfMemory) => {
             let lasts = has_stopped(&mut input, &mut reader, &delims);
             Some(judged(true, lasts, false))
@@ -369,32 +549,243 @@ fn inputs_stay_or_stop(rt: HostRuntime) {
     );
 }
 
-// Calls a builtin that defines a name. A refusal is the call's one fault.
-fn acted(alloc: Global) -> Outcome {
+// What a call of a builtin leaves.
+#[derive(Clone, Copy)]
+enum Leaves {
+    // A text that is pushed, the output, or a text that is saved.
+    Pushes(&'static str),
+    Outputs(&'static str),
+    Saves(&'static str),
+    // Messages, or the text of one warning.
+    Prints(&'static str),
+    Warns(&'static str),
+    // The newest definition of the name.
+    Top(&'static str),
+    // The first text and the second one as quotes, or as comment delimiters.
+    Quotes,
+    Comments,
+}
+
+// A builtin, its arguments, and what its call leaves, among others.
+type Called = (&'static str, &'static [&'static str], Leaves);
+
+static DEFINING: [Called; 10] = [
+    ("define", &[NAME, SECOND], Leaves::Top(SECOND)),
+    ("pushdef", &[NAME, SECOND], Leaves::Top(SECOND)),
+    (
+        "undefine",
+        &[],
+        Leaves::Warns("too few arguments to builtin `undefine'"),
+    ),
+    (
+        "popdef",
+        &[],
+        Leaves::Warns("too few arguments to builtin `popdef'"),
+    ),
+    (
+        "defn",
+        &[NAME],
+        Leaves::Pushes("`the text of its first definition, of more than thirty bytes'"),
+    ),
+    ("indir", &[NAME], Leaves::Pushes(FIRST)),
+    (
+        "builtin",
+        &["shift", "a", FIRST],
+        Leaves::Pushes("`the text of its first definition, of more than thirty bytes'"),
+    ),
+    ("ifdef", &[NAME, SECOND], Leaves::Pushes(SECOND)),
+    ("ifelse", &["a", "a", SECOND], Leaves::Pushes(SECOND)),
+    (
+        "shift",
+        &["a", SECOND],
+        Leaves::Pushes("`the text of its second definition, of more than thirty bytes'"),
+    ),
+];
+
+static DIVERTING: [Called; 10] = [
+    (
+        "dumpdef",
+        &[NAME],
+        Leaves::Prints(
+            "a_name_of_more_than_thirty_letters:\t`the text of its first definition, of more than thirty bytes'\n",
+        ),
+    ),
+    (
+        "dnl",
+        &[""],
+        Leaves::Warns("excess arguments to builtin `dnl' ignored"),
+    ),
+    (
+        "divert",
+        &["x"],
+        Leaves::Warns("non-numeric argument to builtin `divert'"),
+    ),
+    ("undivert", &["1"], Leaves::Outputs(FIRST)),
+    (
+        "divnum",
+        &[""],
+        Leaves::Warns("excess arguments to builtin `divnum' ignored"),
+    ),
+    ("changequote", &[FIRST, SECOND], Leaves::Quotes),
+    ("changecom", &[FIRST, SECOND], Leaves::Comments),
+    (
+        "len",
+        &[FIRST, ""],
+        Leaves::Warns("excess arguments to builtin `len' ignored"),
+    ),
+    (
+        "index",
+        &[FIRST],
+        Leaves::Warns("too few arguments to builtin `index'"),
+    ),
+    (
+        "substr",
+        &[FIRST, "4"],
+        Leaves::Pushes("text of its first definition, of more than thirty bytes"),
+    ),
+];
+
+static PRINTING: [Called; 9] = [
+    (
+        "translit",
+        &[FIRST, "t", "T"],
+        Leaves::Pushes("The TexT of iTs firsT definiTion, of more Than ThirTy byTes"),
+    ),
+    (
+        "incr",
+        &["x"],
+        Leaves::Warns("non-numeric argument to builtin `incr'"),
+    ),
+    (
+        "decr",
+        &["x"],
+        Leaves::Warns("non-numeric argument to builtin `decr'"),
+    ),
+    (
+        "eval",
+        &["1", "2", "40"],
+        Leaves::Pushes("0000000000000000000000000000000000000001"),
+    ),
+    (
+        "errprint",
+        &[FIRST, "x"],
+        Leaves::Prints("the text of its first definition, of more than thirty bytes x"),
+    ),
+    (
+        "m4wrap",
+        &[FIRST, "x"],
+        Leaves::Saves("the text of its first definition, of more than thirty bytes x"),
+    ),
+    (
+        "m4exit",
+        &["300"],
+        Leaves::Warns("exit status out of range"),
+    ),
+    (
+        "__file__",
+        &[],
+        Leaves::Pushes("`a_file_of_more_than_thirty_letters.m4'"),
+    ),
+    (
+        "__line__",
+        &[""],
+        Leaves::Warns("excess arguments to builtin `__line__' ignored"),
+    ),
+];
+
+// Returns a state with a name and text in a diversion.
+fn with_a_name(alloc: Global) -> Option<State> {
     let mut state = State::empty(alloc).ok()?;
-    let mut items = Vec::new(alloc);
-    items
-        .push(Arg::Text(Bytes::from_slice(alloc, NAME).ok()?))
-        .ok()?;
-    items
-        .push(Arg::Text(Bytes::from_slice(alloc, FIRST).ok()?))
-        .ok()?;
-    let args = Args {
-        name: Bytes::from_slice(alloc, b"define").ok()?,
-        list: ArgList::from(items),
-    };
+    let name = Bytes::from_slice(alloc, NAME.as_bytes()).ok()?;
+    state.push(name, text_of(alloc, FIRST.as_bytes())?).ok()?;
+    divert_to(&mut state, 1, FIRST.as_bytes())?;
+    state.divert(0);
+    Some(state)
+}
+
+// Returns whether a message is the warning with this text, in line 1 of the file.
+fn is_warning(message: &[u8], text: &[u8]) -> bool {
+    match message.strip_prefix(WARNING) {
+        Some(rest) => match rest.strip_suffix(b"\n") {
+            Some(found) => found == text,
+            None => false,
+        },
+        None => false,
+    }
+}
+
+// Returns whether a call left this.
+fn is_left(effect: &Effect, state: &State, leaves: Leaves) -> bool {
+    match leaves {
+        Leaves::Pushes(text) => match &effect.push {
+            Some(Pushed::Text(found)) => found.as_slice() == text.as_bytes(),
+            _ => false,
+        },
+        Leaves::Outputs(text) => effect.output.as_slice() == text.as_bytes(),
+        Leaves::Saves(text) => match &effect.wrap {
+            Some(found) => found.as_slice() == text.as_bytes(),
+            None => false,
+        },
+        Leaves::Prints(text) => effect.messages.as_slice() == text.as_bytes(),
+        Leaves::Warns(text) => is_warning(effect.messages.as_slice(), text.as_bytes()),
+        Leaves::Top(text) => match state.top(NAME.as_bytes()) {
+            Some(Def::Text(found)) => found.as_slice() == text.as_bytes(),
+            _ => false,
+        },
+        Leaves::Quotes => state.quotes() == long_pair(false),
+        Leaves::Comments => state.comments() == long_pair(false),
+    }
+}
+
+// Calls a builtin. A refusal is the call's one fault.
+fn acted(alloc: Global, (name, texts, leaves): Called) -> Outcome {
+    let definition = Def::Builtin(Builtin::by_name(name.as_bytes())?);
+    let mut state = with_a_name(alloc)?;
+    let args = text_call_of(alloc, "f", texts).ok()?;
     let place = Place {
-        file: Bytes::from_slice(alloc, b"a.m4").ok()?,
+        file: Bytes::from_slice(alloc, FILE.as_bytes()).ok()?,
         line: 1,
     };
-    let define = Def::Builtin(Builtin::Define);
-    match act(alloc, &define, &args, &place, &mut state) {
-        Ok(_) => Some(judged(false, false, has_one(&state, FIRST))),
+    match act(alloc, &definition, &args, &place, &mut state) {
+        Ok(effect) => Some(judged(false, false, is_left(&effect, &state, leaves))),
+        Err(BuiltinFault::OutOfMemory) => Some(Left::Before),
+    }
+}
+
+// Calls the builtin of each row.
+fn act_rows(rt: &(impl Abort + Alloc<A = Global> + Print), rows: &[Called]) {
+    let mut refused = 0u32;
+    for row in rows {
+        refused = refused.saturating_add(judge(rt, row.0, acted(rt.alloc(), *row)));
+    }
+    let _printed = println!(rt; "{refused} broke off");
+}
+
+#[test]
+fn builtins_that_define_have_one_fault(rt: HostRuntime) {
+    act_rows(&rt, &DEFINING);
+}
+
+#[test]
+fn builtins_that_divert_have_one_fault(rt: HostRuntime) {
+    act_rows(&rt, &DIVERTING);
+}
+
+#[test]
+fn builtins_that_print_have_one_fault(rt: HostRuntime) {
+    act_rows(&rt, &PRINTING);
+}
+
+// Substitutes an argument in a text.
+fn substituted(alloc: Global) -> Outcome {
+    let args = text_call_of(alloc, "f", &[FIRST, SECOND]).ok()?;
+    match substitute(alloc, b"$2", &args, (b"`", b"'")) {
+        Ok(text) => Some(judged(false, false, text.as_slice() == SECOND.as_bytes())),
         Err(BuiltinFault::OutOfMemory) => Some(Left::Before),
     }
 }
 
 #[test]
-fn builtins_have_one_fault(rt: HostRuntime) {
-    count(&rt, &[("define", acted(rt.alloc()))]);
+fn substitution_has_one_fault(rt: HostRuntime) {
+    count(&rt, &[("substitute", substituted(rt.alloc()))]);
 }

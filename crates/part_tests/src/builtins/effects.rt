@@ -4,17 +4,25 @@
 //! "Exiting from m4".
 
 use super::Argument;
-use super::steps::{Row, Step, tried};
+use super::steps::{EMPTY, FEW, Pushes, Row, Step, Warns, pushed, tried, warned};
 use crate::given::Given;
 
-// Each row is a call in line 7 of `a.m4`.
-static COUNTED: [Row; 8] = [
+// Calls in line 1 of `a.m4`, and of others in line 7.
+static COUNTED: [Pushes; 2] = [
+    ("incr", &["4"], "5"),
     (
-        "incr",
-        false,
-        &[Step::With(7, "incr", &[Argument::Text("4")])],
-        "push 5\n",
+        "after the greatest number comes the least",
+        &["2147483647"],
+        "-2147483648",
     ),
+];
+
+static WARNED_COUNTED: [Warns; 2] = [
+    ("an empty argument is 0", &[""], Some("-1"), EMPTY),
+    ("no argument", &[], None, FEW),
+];
+
+static OTHER_COUNTED: [Row; 4] = [
     (
         "decr",
         false,
@@ -22,22 +30,10 @@ static COUNTED: [Row; 8] = [
         "push -8\n",
     ),
     (
-        "after the greatest number comes the least",
-        false,
-        &[Step::With(7, "incr", &[Argument::Text("2147483647")])],
-        "push -2147483648\n",
-    ),
-    (
         "before the least number comes the greatest",
         false,
         &[Step::With(7, "decr", &[Argument::Text("-2147483648")])],
         "push 2147483647\n",
-    ),
-    (
-        "an empty argument is 0",
-        false,
-        &[Step::With(7, "decr", &[Argument::Text("")])],
-        "push -1\nm4:a.m4:7: Warning: empty string treated as 0 in builtin `decr'\n",
     ),
     (
         "a definition is an empty argument",
@@ -50,12 +46,6 @@ static COUNTED: [Row; 8] = [
         false,
         &[Step::With(7, "incr", &[Argument::Text("x")])],
         "m4:a.m4:7: Warning: non-numeric argument to builtin `incr'\n",
-    ),
-    (
-        "no argument",
-        false,
-        &[Step::With(7, "decr", &[])],
-        "m4:a.m4:7: Warning: too few arguments to builtin `decr'\n",
     ),
 ];
 
@@ -151,7 +141,12 @@ static ENDINGS: [Row; 8] = [
     ),
 ];
 
-static FEW: [Row; 5] = [
+static WARNED_TRANSLIT: [Warns; 2] = [
+    ("translit of one argument", &["abc"], Some("abc"), FEW),
+    ("translit without arguments", &[], None, FEW),
+];
+
+static FEW_ARGUMENTS: [Row; 3] = [
     (
         "index of one argument",
         false,
@@ -165,22 +160,10 @@ static FEW: [Row; 5] = [
         "push abc\nm4:a.m4:7: Warning: too few arguments to builtin `substr'\n",
     ),
     (
-        "translit of one argument",
-        false,
-        &[Step::With(7, "translit", &[Argument::Text("abc")])],
-        "push abc\nm4:a.m4:7: Warning: too few arguments to builtin `translit'\n",
-    ),
-    (
         "substr of one definition",
         false,
         &[Step::With(7, "substr", &[Argument::Definition(Given::Named("dnl"))])],
         "push \nm4:a.m4:7: Warning: too few arguments to builtin `substr'\n",
-    ),
-    (
-        "translit without arguments",
-        false,
-        &[Step::With(7, "translit", &[])],
-        "m4:a.m4:7: Warning: too few arguments to builtin `translit'\n",
     ),
 ];
 
@@ -202,9 +185,12 @@ static WRAPPED: [Row; 2] = [
 
 #[test]
 fn effects_of_calls(rt: HostRuntime) {
-    tried(&rt, rt.alloc(), &COUNTED);
+    pushed(&rt, rt.alloc(), "incr", &COUNTED);
+    warned(&rt, rt.alloc(), "decr", &WARNED_COUNTED);
+    tried(&rt, rt.alloc(), &OTHER_COUNTED);
     tried(&rt, rt.alloc(), &PLACES);
     tried(&rt, rt.alloc(), &WRAPPED);
     tried(&rt, rt.alloc(), &ENDINGS);
-    tried(&rt, rt.alloc(), &FEW);
+    warned(&rt, rt.alloc(), "translit", &WARNED_TRANSLIT);
+    tried(&rt, rt.alloc(), &FEW_ARGUMENTS);
 }

@@ -1,46 +1,24 @@
 //! Arguments that are numbers, as `incr` reads them. Manual: "Macro arguments", "Decrement and increment operators".
 
-use super::steps::{Row, Step, report_of, tried};
+use super::steps::{Pushes, Step, pushed, report_of};
 use crate::shows::shows;
 
-static NUMBERS: [Row; 8] = [
-    ("digits", false, &[Step::Call("incr", &["12"])], "push 13\n"),
-    (
-        "white space in front",
-        false,
-        &[Step::Call("incr", &[" \t\n\x0b\x0c\r12"])],
-        "push 13\n",
-    ),
-    ("a plus", false, &[Step::Call("incr", &["+5"])], "push 6\n"),
-    (
-        "a zero with a minus",
-        false,
-        &[Step::Call("incr", &["-0"])],
-        "push 1\n",
-    ),
-    (
-        "one below the greatest",
-        false,
-        &[Step::Call("incr", &["2147483646"])],
-        "push 2147483647\n",
-    ),
-    (
-        "the least",
-        false,
-        &[Step::Call("incr", &["-2147483648"])],
-        "push -2147483647\n",
-    ),
+static NUMBERS: [Pushes; 8] = [
+    ("digits", &["12"], "13"),
+    ("white space in front", &[" \t\n\x0b\x0c\r12"], "13"),
+    ("a plus", &["+5"], "6"),
+    ("a zero with a minus", &["-0"], "1"),
+    ("one below the greatest", &["2147483646"], "2147483647"),
+    ("the least", &["-2147483648"], "-2147483647"),
     (
         "many leading zeros",
-        false,
-        &[Step::Call("incr", &["0000000000000000000000000000000000000005"])],
-        "push 6\n",
+        &["0000000000000000000000000000000000000005"],
+        "6",
     ),
     (
         "many leading zeros after a minus",
-        false,
-        &[Step::Call("incr", &[" -0000000000000000000000000000000000000007"])],
-        "push -6\n",
+        &[" -0000000000000000000000000000000000000007"],
+        "-6",
     ),
 ];
 
@@ -73,7 +51,7 @@ const WARNING: &str = "m4:a.m4:1: Warning: non-numeric argument to builtin `incr
 
 #[test]
 fn arguments_and_the_numbers_that_they_are(rt: HostRuntime) {
-    tried(&rt, rt.alloc(), &NUMBERS);
+    pushed(&rt, rt.alloc(), "incr", &NUMBERS);
 }
 
 #[test]

@@ -6,8 +6,8 @@ ghost use Rattle.m4_builtins.specs.Args.{IsArg};
 
 use super::{Argument, call_of, text_call_of};
 use crate::given::{Given, describe_definition, made, start};
-use crate::report::Report;
-use crate::shows::shows;
+use crate::report::{Report, joined};
+use crate::shows::{agrees, shows};
 use m4_builtins::act::act;
 use m4_builtins::args::Args;
 use m4_builtins::effect::Effect;
@@ -43,6 +43,28 @@ pub enum Step {
 
 /// A row's name, whether the state is fresh or empty, the steps, and the reports.
 pub type Row = (&'static str, bool, &'static [Step], &'static str);
+
+/// A row's name, the arguments of a builtin, which are texts, and the text that a call of it pushes.
+pub type Pushes = (&'static str, &'static [&'static str], &'static str);
+
+/// A row's name, the arguments of a builtin, the text that a call of it pushes, if it pushes one, and its warning.
+pub type Warns = (
+    &'static str,
+    &'static [&'static str],
+    Option<&'static str>,
+    Warning,
+);
+
+/// A warning that names a builtin: what comes before the name, and what comes after it.
+pub type Warning = (&'static str, &'static str);
+
+pub const FEW: Warning = ("too few arguments to builtin `", "'");
+
+pub const MANY: Warning = ("excess arguments to builtin `", "' ignored");
+
+pub const NO_NUMBER: Warning = ("non-numeric argument to builtin `", "'");
+
+pub const EMPTY: Warning = ("empty string treated as 0 in builtin `", "'");
 
 // What is called: a definition, its name, and the place of the call.
 type Called = (Given, &'static str, (&'static str, u64));
@@ -206,5 +228,39 @@ pub fn report_of(alloc: Global, fresh: bool, steps: &[Step]) -> Result<Vec<u8>, 
 pub fn tried(rt: &impl Abort, alloc: Global, rows: &[Row]) {
     for &(name, fresh, steps, want) in rows {
         shows(rt, name, want.as_bytes(), report_of(alloc, fresh, steps));
+    }
+}
+
+/// Compares what each row's call of a builtin pushes, in an empty state, with the expected text. It does nothing else.
+pub fn pushed(rt: &impl Abort, alloc: Global, builtin: &'static str, rows: &[Pushes]) {
+    for &(name, texts, want) in rows {
+        let got = report_of(alloc, false, &[Step::Call(builtin, texts)]);
+        agrees(
+            rt,
+            name,
+            joined(alloc, &[b"push ", want.as_bytes(), b"\n"]),
+            got,
+        );
+    }
+}
+
+// Returns the expected report on a call that warns.
+fn warning_of(alloc: Global, builtin: &str, row: &Warns) -> Result<Vec<u8>, AllocError> {
+    let (before, after) = row.3;
+    let mut report = Report::new(alloc);
+    if let Some(text) = row.2 {
+        describe_text(b"push ", text.as_bytes(), &mut report);
+    }
+    for piece in ["m4:a.m4:1: Warning: ", before, builtin, after, "\n"] {
+        report.add(piece.as_bytes());
+    }
+    report.text()
+}
+
+/// Compares what each row's call of a builtin pushes and the warning with the expected ones.
+pub fn warned(rt: &impl Abort, alloc: Global, builtin: &'static str, rows: &[Warns]) {
+    for row in rows {
+        let got = report_of(alloc, false, &[Step::Call(builtin, row.1)]);
+        agrees(rt, row.0, warning_of(alloc, builtin, row), got);
     }
 }

@@ -9,9 +9,14 @@ use m4_state::memory::MemSink;
 use std::alloc::{AllocError, Global};
 
 // A row's name, a file, and the lines that are listed for it.
-static ROWS: [(&str, &[u8], &[u8]); 4] = [
+static ROWS: [(&str, &[u8], &[u8]); 5] = [
     (
-        "a text, a placeholder and a diversion",
+        "a placeholder, under its name and another one",
+        b"V1\nF6,6\nformatformat\nF3,6\nfmtformat\n",
+        b"quotes ` '\ncomments # \\0a\nplaceholder fmt format\nplaceholder format format\ncurrent 0\n",
+    ),
+    (
+        "a text, a builtin and a diversion",
         b"V1\nT1,1\nab\nF3,5\ncutshift\nD2,4\ntwo\n\n",
         b"quotes ` '\ncomments # \\0a\ntext a 1\nbuiltin cut shift\ndiversion 2 4\ncurrent 2\n",
     ),

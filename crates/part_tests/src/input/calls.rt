@@ -153,6 +153,52 @@ static OTHERS: [Row; 7] = [
     },
 ];
 
+// Text that was saved for the end: it has no file and no line, and asks no reader.
+static WRAPPED: [Row; 3] = [
+    Row {
+        name: "tokens of saved text",
+        file: "ab `c'\nd",
+        wrapped: true,
+        steps: &[Step::Name, Step::Line, Step::Rest, Step::Line, Step::Taken],
+        want: "\nline 0\nname ab\nbyte  \nstring c\nbyte \n\nname d\nend\nline 0\ntaken 0\n",
+        ..BLOCKED
+    },
+    Row {
+        name: "a list, and the rest of a line of saved text",
+        file: "f(x\ny",
+        wrapped: true,
+        steps: &[
+            Step::Next,
+            Step::SeesParen,
+            Step::SkipLine,
+            Step::Next,
+            Step::Next,
+            Step::Taken,
+        ],
+        want: "name f\nlist\nskipped\nname y\nend\ntaken 0\n",
+        ..BLOCKED
+    },
+    Row {
+        name: "a string without an end in saved text, after text that is pushed",
+        file: "b\n`c",
+        wrapped: true,
+        steps: &[
+            Step::Push("a"),
+            Step::Next,
+            Step::Next,
+            Step::Next,
+            Step::Next,
+        ],
+        want: "name ab\nbyte \n\nend in string of line 0\nend\n",
+        ..BLOCKED
+    },
+];
+
+#[test]
+fn text_that_was_saved(rt: HostRuntime) {
+    tried(&rt, rt.alloc(), &WRAPPED);
+}
+
 #[test]
 fn lists_that_follow_and_other_answers(rt: HostRuntime) {
     tried(&rt, rt.alloc(), &LISTS);

@@ -68,8 +68,8 @@ pub enum Step {
 /// Two delimiters, the first and the last.
 pub type Pair = (&'static str, &'static str);
 
-/// A file a.m4, the numbers of bytes that its reader returns at a time, and whether it fails at the end; steps
-/// and their results.
+/// A file a.m4, the numbers of bytes that its reader returns at a time, and whether it fails at the end, or a text that
+/// was saved; steps and their results.
 pub struct Row {
     pub name: &'static str,
     pub quotes: Pair,
@@ -77,6 +77,7 @@ pub struct Row {
     pub file: &'static str,
     pub blocks: &'static [usize],
     pub fails: bool,
+    pub wrapped: bool,
     pub steps: &'static [Step],
     pub want: &'static str,
 }
@@ -89,6 +90,7 @@ pub const PLAIN: Row = Row {
     file: "",
     blocks: &[4096],
     fails: false,
+    wrapped: false,
     steps: &[],
     want: "",
 };
@@ -462,10 +464,18 @@ fn answer(
     }
 }
 
+// Makes the input of a row.
+fn input_of(alloc: Global, row: &Row) -> Result<Input, AllocError> {
+    if row.wrapped {
+        return Input::wrapped(alloc, Bytes::from_slice(alloc, row.file.as_bytes())?);
+    }
+    Ok(Input::file(alloc, Bytes::from_slice(alloc, b"a.m4")?))
+}
+
 // Adds the results of a row's steps.
 fn see(alloc: Global, row: &Row, block: usize, report: &mut Report) -> Result<(), StateFault> {
     let mut reader = MemSource::new(row.file.as_bytes(), block.max(1), row.fails);
-    let mut input = Input::file(alloc, Bytes::from_slice(alloc, b"a.m4")?);
+    let mut input = input_of(alloc, row)?;
     let state = delimited(alloc, row.quotes, row.comments)?;
     let delims = Delims::of(&state);
     for step in row.steps {

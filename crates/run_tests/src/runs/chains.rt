@@ -1,158 +1,155 @@
 //! Chains of runs: each run starts from the text that the one before it froze.
 
-use super::given::{
-    AT_MOST, BLOCKS, ROOM, Seen, USUAL, ended, freezing, opened, options, run_over,
-};
-use super::report::add_run;
-use super::shows::{agrees_by, shows};
-use m4_engine::ending::Cause;
+use super::given::{BLOCKS, Seen, USUAL, freezing, options};
+use super::report::{add_seen, ending};
+use super::rows::Given::File;
+use super::rows::{AMPLE, DONE, Given, run_fresh, run_from};
+use super::shows::agrees_by;
 use m4_engine::options::Options;
-use m4_state::memory::MemSource;
 use part_tests::report::Report;
 use std::alloc::{AllocError, Global};
 use std::process::Abort;
 
-/// The four sources of the chain. Each adds a text to the messages.
-const DEFINES: &str = "define(`n',`1')errprint(`d')dnl\n";
-
-const DIVERTS: &str = "n pushdef(`n',`2')errprint(n)divert(1)n\n";
-
-const RESTORES: &str = "divert(0)n popdef(`n')errprint(n)dnl\n";
-
-const ISSUES: &str = "n undivert(1)end`'errprint(`e')\n";
-
-/// The end of the frozen text of the second of four runs.
-const DIVERTED: &[u8] = b"D1,2\n2\n\n# End of frozen state file\n";
-
-/// A way to divide the sources into runs: the sources of each run, and its output and messages. Each run
-/// reads everything and ends with status 0.
-struct Grouping {
+/// Four sources, and what is written while each is read. All is read, and ends with status 0.
+struct Chain {
     name: &'static str,
-    runs: &'static [&'static [&'static str]],
-    written: &'static [(&'static str, &'static str)],
+    files: [Given; 4],
+    written: [(&'static str, &'static str); 4],
 }
 
-static GROUPINGS: [Grouping; 8] = [
-    Grouping {
-        name: "four runs",
-        runs: &[&[DEFINES], &[DIVERTS], &[RESTORES], &[ISSUES]],
-        written: &[("", "d"), ("1 ", "2"), ("2 ", "1"), ("1 2\nend\n", "e")],
+static CHAINS: [Chain; 2] = [
+    Chain {
+        name: "output alone",
+        files: [
+            File("define(`n',`1')dnl\n"),
+            File("n pushdef(`n',`2')divert(1)n\n"),
+            File("divert(0)n popdef(`n')dnl\n"),
+            File("n undivert(1)end\n"),
+        ],
+        written: [("", ""), ("1 ", ""), ("2 ", ""), ("1 2\nend\n", "")],
     },
-    Grouping {
-        name: "the first two joined",
-        runs: &[&[DEFINES, DIVERTS], &[RESTORES], &[ISSUES]],
-        written: &[("1 ", "d2"), ("2 ", "1"), ("1 2\nend\n", "e")],
-    },
-    Grouping {
-        name: "the middle two joined",
-        runs: &[&[DEFINES], &[DIVERTS, RESTORES], &[ISSUES]],
-        written: &[("", "d"), ("1 2 ", "21"), ("1 2\nend\n", "e")],
-    },
-    Grouping {
-        name: "the last two joined",
-        runs: &[&[DEFINES], &[DIVERTS], &[RESTORES, ISSUES]],
-        written: &[("", "d"), ("1 ", "2"), ("2 1 2\nend\n", "1e")],
-    },
-    Grouping {
-        name: "two and two",
-        runs: &[&[DEFINES, DIVERTS], &[RESTORES, ISSUES]],
-        written: &[("1 ", "d2"), ("2 1 2\nend\n", "1e")],
-    },
-    Grouping {
-        name: "one and three",
-        runs: &[&[DEFINES], &[DIVERTS, RESTORES, ISSUES]],
-        written: &[("", "d"), ("1 2 1 2\nend\n", "21e")],
-    },
-    Grouping {
-        name: "three and one",
-        runs: &[&[DEFINES, DIVERTS, RESTORES], &[ISSUES]],
-        written: &[("1 2 ", "d21"), ("1 2\nend\n", "e")],
-    },
-    Grouping {
-        name: "one run",
-        runs: &[&[DEFINES, DIVERTS, RESTORES, ISSUES]],
-        written: &[("1 2 1 2\nend\n", "d21e")],
+    Chain {
+        name: "output and messages",
+        files: [
+            File("define(`n',`1')errprint(`d')dnl\n"),
+            File("n pushdef(`n',`2')errprint(n)divert(1)n\n"),
+            File("divert(0)n popdef(`n')errprint(n)dnl\n"),
+            File("n undivert(1)end`'errprint(`e')\n"),
+        ],
+        written: [("", "d"), ("1 ", "2"), ("2 ", "1"), ("1 2\nend\n", "e")],
     },
 ];
+
+/// The end of the frozen text of a run that ends with the second source.
+const DIVERTED: &[u8] = b"D1,2\n2\n\n# End of frozen state file\n";
+
+/// The ways to divide the sources into runs: where each run ends.
+static GROUPINGS: [&[usize]; 8] = [
+    &[1, 2, 3, 4],
+    &[2, 3, 4],
+    &[1, 3, 4],
+    &[1, 2, 4],
+    &[2, 4],
+    &[1, 4],
+    &[3, 4],
+    &[4],
+];
+
+/// Returns the items from a place up to another one.
+fn between<T>(items: &[T], from: usize, to: usize) -> &[T] {
+    items.get(from..to).unwrap_or(&[])
+}
 
 /// Runs over these sources, from the frozen text of the run before it.
 fn next_run(
     rt: &(impl Abort + Alloc<A = Global>),
     options: Options,
     before: &Option<Seen>,
-    texts: &[&str],
+    files: &[Given],
     block: usize,
-) -> Result<Seen, AllocError> {
-    let mut frozen = match before {
-        Some(seen) => Some(MemSource::new(seen.frozen_text.written(), block.max(1), false)),
-        None => None,
-    };
-    let mut sources = Vec::new(rt.alloc());
-    for text in texts {
-        sources.push(opened(rt, b"a.m4", text.as_bytes(), block))?;
+) -> Seen {
+    match before {
+        None => run_fresh(rt, options, files, AMPLE, block),
+        Some(seen) => {
+            let frozen = (seen.frozen_text.written(), false);
+            run_from(rt, options, frozen, files, AMPLE, block)
+        }
     }
-    Ok(run_over(rt, options, &mut frozen, &mut sources, ROOM, AT_MOST))
 }
 
-/// Reports the runs of a chain: each run but the last freezes.
+/// Reports the runs of a chain: each run but the last freezes. After the second source the frozen text has its end.
 fn seen_of(
     rt: &(impl Abort + Alloc<A = Global>),
-    runs: &[&[&str]],
+    chain: &Chain,
+    ends: &[usize],
     block: usize,
 ) -> Result<Vec<u8>, AllocError> {
     let mut report = Report::new(rt.alloc());
     let mut before = None;
-    if let Some((last, earlier)) = runs.split_last() {
-        for texts in earlier {
-            let seen = next_run(rt, freezing(USUAL), &before, texts, block)?;
-            seen.add_to(&mut report);
-            report.add(b"\n");
-            before = Some(seen);
+    let mut from = 0;
+    for end in ends {
+        let options = if *end == 4 {
+            options(USUAL)
+        } else {
+            freezing()
+        };
+        let seen = next_run(
+            rt,
+            options,
+            &before,
+            between(&chain.files, from, *end),
+            block,
+        );
+        add_seen(&mut report, &seen);
+        if seen.frozen_text.written().ends_with(DIVERTED) {
+            report.add(DIVERTED);
         }
-        let seen = next_run(rt, options(USUAL), &before, last, block)?;
-        seen.add_to(&mut report);
         report.add(b"\n");
+        before = Some(seen);
+        from = *end;
     }
     report.text()
 }
 
-/// Returns the expected report on the runs of a chain.
-fn expected_of(alloc: Global, written: &[(&str, &str)]) -> Result<Vec<u8>, AllocError> {
-    let mut report = Report::new(alloc);
+/// Adds the first or the second of what is written while these sources are read.
+fn add_joined(report: &mut Report, written: &[(&str, &str)], first: bool) {
     for (output, messages) in written {
-        let end = ended(0, Cause::Done);
-        add_run(&mut report, output.as_bytes(), messages.as_bytes(), end);
+        report.add(if first {
+            output.as_bytes()
+        } else {
+            messages.as_bytes()
+        });
+    }
+    report.add(b"|");
+}
+
+/// Returns what the runs of a chain have to leave.
+fn expected_of(alloc: Global, chain: &Chain, ends: &[usize]) -> Result<Vec<u8>, AllocError> {
+    let mut report = Report::new(alloc);
+    let mut from = 0;
+    for end in ends {
+        let written = between(&chain.written, from, *end);
+        add_joined(&mut report, written, true);
+        add_joined(&mut report, written, false);
+        report.print(&ending(DONE));
+        if *end == 2 {
+            report.add(DIVERTED);
+        }
         report.add(b"\n");
+        from = *end;
     }
     report.text()
 }
 
 #[test]
 fn chains_are_one_run(rt: HostRuntime) {
-    for row in &GROUPINGS {
-        for block in BLOCKS {
-            let want = expected_of(rt.alloc(), row.written);
-            let got = seen_of(&rt, row.runs, block);
-            agrees_by(&rt, row.name, block, want, got);
+    for chain in &CHAINS {
+        for ends in GROUPINGS {
+            for block in BLOCKS {
+                let want = expected_of(rt.alloc(), chain, ends);
+                let got = seen_of(&rt, chain, ends, block);
+                agrees_by(&rt, chain.name, block, want, got);
+            }
         }
     }
-}
-
-/// Returns the end of the second run's frozen text, or all of it if it ends otherwise.
-fn end_of_second(rt: &(impl Abort + Alloc<A = Global>)) -> Result<Vec<u8>, AllocError> {
-    let first = next_run(rt, freezing(USUAL), &None, &[DEFINES], AT_MOST)?;
-    let second = next_run(rt, freezing(USUAL), &Some(first), &[DIVERTS], AT_MOST)?;
-    let text = second.frozen_text.written();
-    let mut report = Report::new(rt.alloc());
-    if text.ends_with(DIVERTED) {
-        report.add(DIVERTED);
-    } else {
-        report.add(text);
-    }
-    report.text()
-}
-
-#[test]
-fn diverted_text_is_frozen_again(rt: HostRuntime) {
-    shows(&rt, "the second frozen text", DIVERTED, end_of_second(&rt));
 }

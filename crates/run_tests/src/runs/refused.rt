@@ -6,9 +6,12 @@
 //! `tests/refused_growths` refuses each request in turn, and reads how many runs broke off.
 //! Manual: "Fast loading of frozen state".
 
-use super::given::{AT_MOST, ROOM, USUAL, freezing, options, taken};
+use super::given::{AT_MOST, ROOM, taken};
+use super::rows::Given::File;
+use super::rows::{Given, QUIET, Row, Start, options_of};
 use super::whole_texts::{
-    BEGIN, BUILTIN, CHANGES, DECR_TO_EVAL, END, IFDEF_TO_PUSHDEF, SHIFT, SUBSTR_ON, UNDERSCORES,
+    BEGIN, BUILTIN, CHANGES, DECR_TO_EVAL, END, IFDEF_TO_PUSHDEF, NAMES, SHIFT, SUBSTR_ON,
+    UNDERSCORES,
 };
 use m4_engine::ending::{Cause, Ending};
 use m4_engine::run::run;
@@ -19,37 +22,13 @@ use m4_state::memory::{MemSink, MemSource};
 use std::alloc::Global;
 use std::process::Abort;
 
-/// A run over one file, and what it leaves. It freezes its state if it has a frozen text.
-struct Part {
-    file: &'static str,
-    output: &'static str,
-    messages: &'static str,
-    frozen_text: &'static [&'static str],
-}
-
-/// A run that leaves nothing.
-const NOTHING: Part = Part {
-    file: "",
-    output: "",
-    messages: "",
-    frozen_text: &[],
-};
-
-/// A run from a frozen file, or from the fresh state, and one from the text that the first froze.
-struct Row {
-    name: &'static str,
-    start: Option<&'static str>,
-    first: Part,
-    second: Option<Part>,
-}
-
-static SPLITS: [Row; 4] = [
-    Row {
-        name: "a greeting",
-        start: None,
-        first: Part {
-            file: "define(`hi',`Hello $1.')dnl\n",
-            frozen_text: &[
+/// A run that freezes, and one from its frozen text.
+static SPLITS: [(Row, Row); 4] = [
+    (
+        Row {
+            name: "a greeting",
+            files: &[File("define(`hi',`Hello $1.')dnl\n")],
+            frozen_text: Some(&[
                 BEGIN,
                 UNDERSCORES,
                 BUILTIN,
@@ -60,46 +39,33 @@ static SPLITS: [Row; 4] = [
                 SHIFT,
                 SUBSTR_ON,
                 END,
-            ],
-            ..NOTHING
+            ]),
+            ..QUIET
         },
-        second: Some(Part {
-            file: "hi(`you')\n",
+        Row {
+            files: &[File("hi(`you')\n")],
             output: "Hello you.\n",
-            ..NOTHING
-        }),
-    },
-    Row {
-        name: "a stack",
-        start: None,
-        first: Part {
-            file: "define(`x',`1')pushdef(`x',`2')dnl\n",
-            frozen_text: &[
-                BEGIN,
-                UNDERSCORES,
-                BUILTIN,
-                CHANGES,
-                DECR_TO_EVAL,
-                IFDEF_TO_PUSHDEF,
-                SHIFT,
-                SUBSTR_ON,
-                "T1,1\nx1\nT1,1\nx2\n",
-                END,
-            ],
-            ..NOTHING
+            ..QUIET
         },
-        second: Some(Part {
-            file: "x popdef(`x')x popdef(`x')x\n",
+    ),
+    (
+        Row {
+            name: "a stack",
+            files: &[File("define(`x',`1')pushdef(`x',`2')dnl\n")],
+            frozen_text: Some(&[BEGIN, NAMES, "T1,1\nx1\nT1,1\nx2\n", END]),
+            ..QUIET
+        },
+        Row {
+            files: &[File("x popdef(`x')x popdef(`x')x\n")],
             output: "2 1 x\n",
-            ..NOTHING
-        }),
-    },
-    Row {
-        name: "a builtin under another name",
-        start: None,
-        first: Part {
-            file: "define(`cut',defn(`shift'))undefine(`shift')dnl\n",
-            frozen_text: &[
+            ..QUIET
+        },
+    ),
+    (
+        Row {
+            name: "a builtin under another name",
+            files: &[File("define(`cut',defn(`shift'))undefine(`shift')dnl\n")],
+            frozen_text: Some(&[
                 BEGIN,
                 UNDERSCORES,
                 BUILTIN,
@@ -109,85 +75,66 @@ static SPLITS: [Row; 4] = [
                 IFDEF_TO_PUSHDEF,
                 SUBSTR_ON,
                 END,
-            ],
-            ..NOTHING
+            ]),
+            ..QUIET
         },
-        second: Some(Part {
-            file: "cut(1,2,3) shift(1)\n",
+        Row {
+            files: &[File("cut(1,2,3) shift(1)\n")],
             output: "2,3 shift(1)\n",
-            ..NOTHING
-        }),
-    },
-    Row {
-        name: "diversions",
-        start: None,
-        first: Part {
-            file: "divert(2)two\ndivert(1)one\ndivert(2)dnl\n",
-            frozen_text: &[
-                BEGIN,
-                UNDERSCORES,
-                BUILTIN,
-                CHANGES,
-                DECR_TO_EVAL,
-                IFDEF_TO_PUSHDEF,
-                SHIFT,
-                SUBSTR_ON,
-                "D1,4\none\n\nD2,4\ntwo\n\n",
-                END,
-            ],
-            ..NOTHING
+            ..QUIET
         },
-        second: Some(Part {
-            file: "more\n",
+    ),
+    (
+        Row {
+            name: "diversions",
+            files: &[File("divert(2)two\ndivert(1)one\ndivert(2)dnl\n")],
+            frozen_text: Some(&[BEGIN, NAMES, "D1,4\none\n\nD2,4\ntwo\n\n", END]),
+            ..QUIET
+        },
+        Row {
+            files: &[File("more\n")],
             output: "one\ntwo\nmore\n",
-            ..NOTHING
-        }),
-    },
+            ..QUIET
+        },
+    ),
 ];
 
-static RUNS: [Row; 4] = [
+static RUNS: [Row; 5] = [
+    Row {
+        name: "a greeting, of two files",
+        files: &[File("define(`hi',`Hello $1.')dnl\n"), File("hi(`you')\n")],
+        output: "Hello you.\n",
+        ..QUIET
+    },
     Row {
         name: "a placeholder",
-        start: Some("V1\nF6,6\nregexpregexp\n"),
-        first: Part {
-            file: "regexp(`a',`b')!\n",
-            output: "!\n",
-            messages: "m4:a.m4:1: Warning: builtin `regexp' requested by frozen file is not supported\n",
-            frozen_text: &[BEGIN, "F6,6\nregexpregexp\n", END],
-        },
-        second: None,
+        start: Start::Frozen("V1\nF6,6\nregexpregexp\n"),
+        files: &[File("regexp(`a',`b')!\n")],
+        output: "!\n",
+        messages: "m4:b.m4:1: Warning: builtin `regexp' requested by frozen file is not supported\n",
+        frozen_text: Some(&[BEGIN, "F6,6\nregexpregexp\n", END]),
+        ..QUIET
     },
     Row {
         name: "a state that is frozen again",
-        start: Some("V1\nF6,6\ndefinedefine\nT1,1\nab\n"),
-        first: Part {
-            file: "a define(`c',`d$1')a\n",
-            output: "b b\n",
-            frozen_text: &[BEGIN, "T1,1\nab\nT1,3\ncd$1\nF6,6\ndefinedefine\n", END],
-            ..NOTHING
-        },
-        second: None,
+        start: Start::Frozen("V1\nF6,6\ndefinedefine\nT1,1\nab\n"),
+        files: &[File("a define(`c',`d$1')a\n")],
+        output: "b b\n",
+        frozen_text: Some(&[BEGIN, "T1,1\nab\nT1,3\ncd$1\nF6,6\ndefinedefine\n", END]),
+        ..QUIET
     },
     Row {
         name: "definitions that are shown",
-        start: None,
-        first: Part {
-            file: "define(`b',`2')define(`a',`1')dumpdef(`b',`a',`dnl',`z')\n",
-            output: "\n",
-            messages: "m4:a.m4:1: Warning: undefined macro `z'\na:\t`1'\nb:\t`2'\ndnl:\t<dnl>\n",
-            ..NOTHING
-        },
-        second: None,
+        files: &[File("define(`b',`2')define(`a',`1')dumpdef(`b',`a',`dnl',`z')\n")],
+        output: "\n",
+        messages: "m4:a.m4:1: Warning: undefined macro `z'\na:\t`1'\nb:\t`2'\ndnl:\t<dnl>\n",
+        ..QUIET
     },
     Row {
         name: "dollars",
-        start: None,
-        first: Part {
-            file: "define(`g',`[$#|$*|$2$11|$x]')g(a,`b',)\n",
-            output: "[3|a,b,|b|$x]\n",
-            ..NOTHING
-        },
-        second: None,
+        files: &[File("define(`g',`[$#|$*|$2$11|$x]')g(a,`b',)\n")],
+        output: "[3|a,b,|b|$x]\n",
+        ..QUIET
     },
 ];
 
@@ -220,23 +167,37 @@ impl Drop for Left {
     }
 }
 
-/// Makes a run; none if its devices could not be made.
-fn left_by(alloc: Global, start: Option<&[u8]>, part: &Part) -> Option<Left> {
-    let name = Bytes::from_slice(alloc, b"a.m4").ok()?;
-    let mut output = MemSink::new(alloc, ROOM.0, AT_MOST).ok()?;
-    let mut messages = MemSink::new(alloc, ROOM.1, AT_MOST).ok()?;
-    let mut frozen_text = MemSink::new(alloc, ROOM.0, AT_MOST).ok()?;
-    let reader = MemSource::new(part.file.as_bytes(), BLOCK, false);
-    let mut sources = [Source::Opened { name, reader }];
+/// Makes the sources of a run; none if that is refused. The first has this letter.
+fn sources_of(
+    alloc: Global,
+    first: u8,
+    files: &[Given],
+) -> Option<Vec<Source<MemSource<'static>>>> {
+    let mut sources = Vec::new(alloc);
+    let mut letter = first;
+    for one in files {
+        let File(text) = *one else {
+            return None;
+        };
+        let name = Bytes::from_slice(alloc, &[letter, b'.', b'm', b'4']).ok()?;
+        let reader = MemSource::new(text.as_bytes(), BLOCK, false);
+        sources.push(Source::Opened { name, reader }).ok()?;
+        letter = letter.saturating_add(1);
+    }
+    Some(sources)
+}
+
+/// Makes a run, from this frozen text if there is one; none if its devices could not be made.
+fn left_by(alloc: Global, start: Option<&[u8]>, row: &Row) -> Option<Left> {
+    let first = if start.is_some() { b'b' } else { b'a' };
+    let mut sources = sources_of(alloc, first, row.files)?;
+    let mut output = MemSink::new(alloc, ROOM, AT_MOST).ok()?;
+    let mut messages = MemSink::new(alloc, ROOM, AT_MOST).ok()?;
+    let mut frozen_text = MemSink::new(alloc, ROOM, AT_MOST).ok()?;
     let mut frozen = start.map(|text| MemSource::new(text, BLOCK, false));
-    let options = if part.frozen_text.is_empty() {
-        options(USUAL)
-    } else {
-        freezing(USUAL)
-    };
     let ending = run(
         alloc,
-        options,
+        options_of(row),
         &mut frozen,
         &mut sources,
         &mut output,
@@ -269,14 +230,14 @@ fn are_joined(bytes: &[u8], pieces: &[&str]) -> bool {
     rest.is_empty()
 }
 
-/// Returns whether a run left all of its part.
-fn is_whole(part: &Part, left: &Left) -> bool {
+/// Returns whether a run left all of its row.
+fn is_whole(row: &Row, left: &Left) -> bool {
     left.ending.status == 0
         && left.ending.cause == Cause::Done
         && !left.ending.wrapped
-        && left.output.written() == part.output.as_bytes()
-        && left.messages.written() == part.messages.as_bytes()
-        && are_joined(left.frozen_text.written(), part.frozen_text)
+        && left.output.written() == row.output.as_bytes()
+        && left.messages.written() == row.messages.as_bytes()
+        && are_joined(left.frozen_text.written(), row.frozen_text.unwrap_or(&[]))
 }
 
 /// Returns whether a run read and wrote nothing.
@@ -299,57 +260,59 @@ fn wanted_memory(is_reloading: bool, left: &Left) -> bool {
 }
 
 /// Returns whether a run broke off by want of memory.
-fn broke_off(part: &Part, is_reloading: bool, left: &Left) -> bool {
+fn broke_off(row: &Row, is_reloading: bool, left: &Left) -> bool {
     left.ending.status == 1
         && wanted_memory(is_reloading, left)
-        && part.output.as_bytes().starts_with(left.output.written())
-        && part
-            .messages
-            .as_bytes()
-            .starts_with(left.messages.written())
+        && row.output.as_bytes().starts_with(left.output.written())
+        && row.messages.as_bytes().starts_with(left.messages.written())
         && left.frozen_text.written().is_empty()
 }
 
-/// Makes a run of a row. Returns what it left, if that is all of its part; counts it if it broke off.
+/// Makes a run of a row. Returns what it left, if that is all that its row has; counts it if it broke off.
 fn followed(
     rt: &(impl Abort + Alloc<A = Global>),
     name: &str,
     start: Option<&[u8]>,
-    part: &Part,
+    row: &Row,
     broken: &mut u32,
 ) -> Option<Left> {
-    let left = left_by(rt.alloc(), start, part)?;
-    if is_whole(part, &left) {
+    let left = left_by(rt.alloc(), start, row)?;
+    if is_whole(row, &left) {
         return Some(left);
     }
     assert!(rt;
-        broke_off(part, start.is_some(), &left),
+        broke_off(row, start.is_some(), &left),
         "{name}: neither its result nor what it leaves where it breaks off"
     );
     *broken = broken.saturating_add(1);
     None
 }
 
-/// Makes the runs of each row, and prints how many broke off.
-fn count(rt: &(impl Abort + Alloc<A = Global> + Print), rows: &[Row]) {
+/// Returns the frozen file that a row starts from.
+fn start_of(row: &Row) -> Option<&'static [u8]> {
+    match row.start {
+        Start::Frozen(text) => Some(text.as_bytes()),
+        _ => None,
+    }
+}
+
+#[test]
+fn runs_that_are_split(rt: HostRuntime) {
     let mut broken = 0u32;
-    for row in rows {
-        let start = row.start.map(|text| text.as_bytes());
-        let first = followed(rt, row.name, start, &row.first, &mut broken);
-        if let (Some(left), Some(second)) = (first, &row.second) {
+    for (first, second) in &SPLITS {
+        if let Some(left) = followed(&rt, first.name, None, first, &mut broken) {
             let start = Some(left.frozen_text.written());
-            let _second = followed(rt, row.name, start, second, &mut broken);
+            let _second = followed(&rt, first.name, start, second, &mut broken);
         }
     }
     let _printed = println!(rt; "{broken} broke off");
 }
 
 #[test]
-fn runs_that_are_split(rt: HostRuntime) {
-    count(&rt, &SPLITS);
-}
-
-#[test]
 fn single_runs(rt: HostRuntime) {
-    count(&rt, &RUNS);
+    let mut broken = 0u32;
+    for row in &RUNS {
+        let _left = followed(&rt, row.name, start_of(row), row, &mut broken);
+    }
+    let _printed = println!(rt; "{broken} broke off");
 }

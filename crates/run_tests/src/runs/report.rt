@@ -1,5 +1,7 @@
 //! The report on a run, as text.
 
+use super::given::Seen;
+use super::rows::End;
 use m4_engine::ending::Ending;
 use part_tests::report::Report;
 use std::alloc::{AllocError, Global};
@@ -11,14 +13,37 @@ pub fn add_run(report: &mut Report, output: &[u8], messages: &[u8], ending: Endi
     report.print(&ending);
 }
 
-/// Returns the end of a run as it is printed.
-pub fn printed(alloc: Global, ending: Ending) -> Result<Vec<u8>, AllocError> {
+/// Makes the end of a run.
+pub fn ending((status, cause, wrapped): End) -> Ending {
+    Ending {
+        status,
+        cause,
+        wrapped,
+    }
+}
+
+/// Adds what a run has to leave, but for its frozen text.
+pub fn add_expected(report: &mut Report, (output, messages): (&str, &str), end: End) {
+    add_run(report, output.as_bytes(), messages.as_bytes(), ending(end));
+}
+
+/// Returns what a run has to leave, with the parts of its frozen text.
+pub fn expected(
+    alloc: Global,
+    written: (&str, &str),
+    end: End,
+    frozen_text: &[&str],
+) -> Result<Vec<u8>, AllocError> {
     let mut report = Report::new(alloc);
-    report.print(&ending);
+    add_expected(&mut report, written, end);
+    report.add(b"|");
+    for part in frozen_text {
+        report.add(part.as_bytes());
+    }
     report.text()
 }
 
-/// Returns the output and the messages of a run, and how it ended.
+/// Returns what a run has to leave that freezes nothing.
 pub fn printed_run(
     alloc: Global,
     output: &[u8],
@@ -27,21 +52,20 @@ pub fn printed_run(
 ) -> Result<Vec<u8>, AllocError> {
     let mut report = Report::new(alloc);
     add_run(&mut report, output, messages, ending);
+    report.add(b"|");
     report.text()
 }
 
-/// Returns the same of a run that may freeze, with the parts of the text that it froze.
-pub fn printed_freezing(
-    alloc: Global,
-    (output, messages): (&str, &str),
-    ending: Ending,
-    frozen_text: &[&str],
-) -> Result<Vec<u8>, AllocError> {
+/// Adds what a run left, but for its frozen text.
+pub fn add_seen(report: &mut Report, seen: &Seen) {
+    let (output, messages) = (seen.output.written(), seen.messages.written());
+    add_run(report, output, messages, seen.ending);
+}
+
+/// Returns what a run left.
+pub fn printed_seen(alloc: Global, seen: &Seen) -> Result<Vec<u8>, AllocError> {
     let mut report = Report::new(alloc);
-    add_run(&mut report, output.as_bytes(), messages.as_bytes(), ending);
-    report.add(b"|");
-    for part in frozen_text {
-        report.add(part.as_bytes());
-    }
+    add_seen(&mut report, seen);
+    report.pair(b"|", seen.frozen_text.written());
     report.text()
 }

@@ -1,11 +1,12 @@
 //! Runs over large inputs: long texts, results and delimiters, many arguments, many names.
 
-use super::given::{
-    AT_MOST, ROOM as SMALL, USUAL, ended, files, options, printed_seen, run_file, run_over, taken,
-};
-use super::report::printed_run;
-use super::shows::agrees;
+use super::given::{USUAL, bytes, options, taken};
+use super::report::{ending, printed_run, printed_seen};
+use super::rows::{AMPLE, DONE, End, run_over};
+use super::shows::agrees_by;
 use m4_engine::ending::Cause;
+use m4_engine::source::Source;
+use m4_state::memory::MemSource;
 use part_tests::report::Report;
 use std::alloc::{AllocError, Global};
 use std::process::Abort;
@@ -71,18 +72,43 @@ fn made(alloc: Global, (before, piece, times, after): Made) -> Result<Vec<u8>, A
     report.text()
 }
 
+// Makes a file whose reader returns this many bytes at a time.
+fn opened<'a>(
+    rt: &(impl Abort + Alloc<A = Global>),
+    text: &'a [u8],
+    block: usize,
+) -> Source<MemSource<'a>> {
+    Source::Opened {
+        name: bytes(rt, b"a.m4"),
+        reader: MemSource::new(text, block.max(1), false),
+    }
+}
+
+// Compares a run over a file, with this limit of nested calls, with its output, its messages and its end.
+fn compare_run(
+    rt: &(impl Abort + Alloc<A = Global>),
+    (name, block, nesting): (&str, usize, u64),
+    file: &[u8],
+    (output, messages): (&[u8], &[u8]),
+    end: End,
+) {
+    let mut sources = [opened(rt, file, block)];
+    let options = options((USUAL.0, nesting));
+    let seen = run_over(rt, options, None, &mut sources, (ROOM, 1024, 1024), 4096);
+    let want = printed_run(rt.alloc(), output, messages, ending(end));
+    agrees_by(rt, name, block, want, printed_seen(rt.alloc(), &seen));
+}
+
 // Compares a run over a file with its output.
 fn compare(
     rt: &(impl Abort + Alloc<A = Global>),
-    name: &str,
+    (name, block): (&str, usize),
     file: Result<Vec<u8>, AllocError>,
     output: Result<Vec<u8>, AllocError>,
 ) {
     match (file, output) {
         (Ok(file), Ok(output)) => {
-            let want = printed_run(rt.alloc(), &output, b"", ended(0, Cause::Done));
-            let seen = run_file(rt, &file, 4096, (USUAL.0, 0), ROOM);
-            agrees(rt, name, want, printed_seen(rt.alloc(), &seen));
+            compare_run(rt, (name, block, 0), &file, (&output, b""), DONE);
         }
         _ => panic!(rt; "{name}: out of memory"),
     }
@@ -91,8 +117,16 @@ fn compare(
 #[test]
 fn large_inputs(rt: HostRuntime) {
     for &(name, file, output) in &ROWS {
-        compare(&rt, name, made(rt.alloc(), file), made(rt.alloc(), output));
+        let (file, output) = (made(rt.alloc(), file), made(rt.alloc(), output));
+        compare(&rt, (name, 4096), file, output);
     }
+}
+
+#[test]
+fn words_in_small_blocks(rt: HostRuntime) {
+    let words = ("", "x ", 500_000, "");
+    let (file, output) = (made(rt.alloc(), words), made(rt.alloc(), words));
+    compare(&rt, ("500,000 words", 3), file, output);
 }
 
 // The number of names that are defined.
@@ -127,21 +161,48 @@ fn long_quotes(alloc: Global) -> Result<Vec<u8>, AllocError> {
     report.text()
 }
 
-// Returns a file with 100,000 calls, one within another.
-fn nested_calls(alloc: Global) -> Result<Vec<u8>, AllocError> {
+// Returns a file with this many calls, one within another.
+fn nested_calls(alloc: Global, depth: usize) -> Result<Vec<u8>, AllocError> {
     let mut report = Report::new(alloc);
     report.add(b"define(`f',`$1')");
-    repeat(&mut report, "f(", 100_000);
+    repeat(&mut report, "f(", depth);
     report.add(b"x");
-    repeat(&mut report, ")", 100_000);
+    repeat(&mut report, ")", depth);
     report.add(b"\n");
     report.text()
 }
 
 #[test]
 fn calls_within_calls(rt: HostRuntime) {
-    let want = Vec::from_slice(rt.alloc(), b"x\n");
-    compare(&rt, "100,000 nested calls", nested_calls(rt.alloc()), want);
+    for block in [3, 4096] {
+        let file = nested_calls(rt.alloc(), 100_000);
+        let want = Vec::from_slice(rt.alloc(), b"x\n");
+        compare(&rt, ("100,000 nested calls", block), file, want);
+    }
+}
+
+// A number of calls, one within another, and what a run with the usual limit of 1,024 leaves.
+static NESTED: [(usize, &[u8], &[u8], End); 2] = [
+    (1024, b"x\n", b"", DONE),
+    (
+        1025,
+        b"",
+        b"m4:a.m4:1: ERROR: more than 1024 nested calls\n",
+        (1, Cause::NestingLimit, false),
+    ),
+];
+
+#[test]
+fn usual_limit_of_nested_calls(rt: HostRuntime) {
+    for &(depth, output, messages, end) in &NESTED {
+        match nested_calls(rt.alloc(), depth) {
+            Ok(file) => {
+                let row = ("calls about the usual limit", 4096, USUAL.1);
+                compare_run(&rt, row, &file, (output, messages), end);
+            }
+            Err(AllocError) => panic!(rt; "out of memory"),
+        }
+    }
 }
 
 // Returns a file that ends the run before 1,000,000 bytes.
@@ -159,10 +220,16 @@ fn bytes_after_an_exit_are_not_read(rt: HostRuntime) {
         panic!(rt; "out of memory");
     };
     for (block, most) in TAKEN {
-        let mut sources = files(&rt, &[(b"a.m4", &text)], block);
-        let seen = run_over(&rt, options(USUAL), &mut None, &mut sources, SMALL, AT_MOST);
-        let want = printed_run(rt.alloc(), b"", b"", ended(0, Cause::Exited(0)));
-        agrees(&rt, "an early exit", want, printed_seen(rt.alloc(), &seen));
+        let mut sources = [opened(&rt, &text, block)];
+        let seen = run_over(&rt, options(USUAL), None, &mut sources, AMPLE, block);
+        let want = printed_run(rt.alloc(), b"", b"", ending((0, Cause::Exited(0), false)));
+        agrees_by(
+            &rt,
+            "an early exit",
+            block,
+            want,
+            printed_seen(rt.alloc(), &seen),
+        );
         let read = taken(&sources);
         assert_eq!(rt; read, most);
     }
@@ -171,11 +238,16 @@ fn bytes_after_an_exit_are_not_read(rt: HostRuntime) {
 #[test]
 fn names_by_the_hundred_thousand(rt: HostRuntime) {
     let want = Vec::from_slice(rt.alloc(), b"0 50000 99999\n");
-    compare(&rt, "100,000 names", many_names(rt.alloc()), want);
+    compare(&rt, ("100,000 names", 4096), many_names(rt.alloc()), want);
 }
 
 #[test]
 fn quotes_of_10000_bytes(rt: HostRuntime) {
     let want = Vec::from_slice(rt.alloc(), b"a b\n");
-    compare(&rt, "quotes of 10,000 bytes", long_quotes(rt.alloc()), want);
+    compare(
+        &rt,
+        ("quotes of 10,000 bytes", 4096),
+        long_quotes(rt.alloc()),
+        want,
+    );
 }

@@ -1,196 +1,155 @@
 //! Runs over several sources: files, one whose reader fails and one that isn't opened; and writers
 //! that are full.
 
-use super::given::{AT_MOST, BLOCKS, ROOM, USUAL, bytes, ended, options, printed_seen, run_over};
-use super::report::printed_run;
+use super::given::{BLOCKS, ROOM, USUAL, options};
+use super::report::{expected, printed_seen};
+use super::rows::Given::{Failing, File, Missing};
+use super::rows::{AMPLE, FAILED_READ, FAILED_WRITE, QUIET, Row, compare, run_fresh};
 use super::shows::agrees_by;
 use m4_engine::ending::Cause;
-use m4_engine::source::Source;
-use m4_state::memory::MemSource;
-use std::alloc::{AllocError, Global};
+use std::alloc::Global;
 use std::process::Abort;
 
-// A source of a row. The files are a.m4, b.m4 and so on, by their place.
-#[derive(Clone, Copy)]
-enum Given {
-    // A file with this text.
-    File(&'static str),
-    // A file whose reader fails after this text.
-    Failing(&'static str),
-    // A file of this name that isn't opened.
-    Missing(&'static str),
-}
-
-// A row's name, its sources, the room for output and for messages, output, messages, and the end.
-type Row = (
-    &'static str,
-    &'static [Given],
-    (usize, usize),
-    &'static str,
-    &'static str,
-    (u8, Cause),
-);
-
 static FILES: [Row; 4] = [
-    ("no source", &[], ROOM, "", "", (0, Cause::Done)),
-    (
-        "a definition of one file is called in the next",
-        &[
-            Given::File("define(`hi',`Hello $1.')dnl\n"),
-            Given::File("hi(`you')\n"),
-        ],
-        ROOM,
-        "Hello you.\n",
-        "",
-        (0, Cause::Done),
-    ),
-    (
-        "no name and no call spans two files",
-        &[
-            Given::File("define(`f',`<$#>')dnl\nf"),
-            Given::File("(1)\n"),
-        ],
-        ROOM,
-        "<0>(1)\n",
-        "",
-        (0, Cause::Done),
-    ),
-    (
-        "a string without an end ends the run",
-        &[
-            Given::File("one\n"),
-            Given::File("two `"),
-            Given::File("three\n"),
-        ],
-        ROOM,
-        "one\ntwo ",
-        "m4:b.m4:1: ERROR: end of input in string\n",
-        (1, Cause::EndInString),
-    ),
+    Row {
+        name: "no source",
+        files: &[],
+        ..QUIET
+    },
+    Row {
+        name: "a definition of one file is called in the next",
+        files: &[File("define(`hi',`Hello $1.')dnl\n"), File("hi(`you')\n")],
+        output: "Hello you.\n",
+        ..QUIET
+    },
+    Row {
+        name: "no name and no call spans two files",
+        files: &[File("define(`f',`<$#>')dnl\nf"), File("(1)\n")],
+        output: "<0>(1)\n",
+        ..QUIET
+    },
+    Row {
+        name: "a string without an end ends the run",
+        files: &[File("one\n"), File("two `"), File("three\n")],
+        output: "one\ntwo ",
+        messages: "m4:b.m4:1: ERROR: end of input in string\n",
+        end: (1, Cause::EndInString, false),
+        ..QUIET
+    },
 ];
 
 // Files that are not opened, and runs that a macro ends.
 static NOT_OPENED: [Row; 6] = [
-    (
-        "a file that isn't opened",
-        &[Given::Missing("nofile"), Given::File("z\n")],
-        ROOM,
-        "z\n",
-        "m4: cannot open `nofile'\n",
-        (1, Cause::Done),
-    ),
-    (
-        "a macro ends the run: the next file is not read",
-        &[Given::File("x m4exit(`3')y\n"), Given::File("z\n")],
-        ROOM,
-        "x ",
-        "",
-        (3, Cause::Exited(3)),
-    ),
-    (
-        "a macro ends the run with code 0 after a file that isn't opened",
-        &[Given::Missing("nofile"), Given::File("x m4exit()y\n")],
-        ROOM,
-        "x ",
-        "m4: cannot open `nofile'\n\
+    Row {
+        name: "a file that isn't opened",
+        files: &[Missing("nofile"), File("z\n")],
+        output: "z\n",
+        messages: "m4: cannot open `nofile'\n",
+        end: (1, Cause::Done, false),
+        ..QUIET
+    },
+    Row {
+        name: "a macro ends the run: the next file is not read",
+        files: &[File("x m4exit(`3')y\n"), File("z\n")],
+        output: "x ",
+        end: (3, Cause::Exited(3), false),
+        ..QUIET
+    },
+    Row {
+        name: "a macro ends the run with code 0 after a file that isn't opened",
+        files: &[Missing("nofile"), File("x m4exit()y\n")],
+        output: "x ",
+        messages: "m4: cannot open `nofile'\n\
          m4:b.m4:1: Warning: empty string treated as 0 in builtin `m4exit'\n",
-        (1, Cause::Exited(0)),
-    ),
-    (
-        "the same code, written out",
-        &[Given::Missing("nofile"), Given::File("x m4exit(`0')y\n")],
-        ROOM,
-        "x ",
-        "m4: cannot open `nofile'\n",
-        (1, Cause::Exited(0)),
-    ),
-    (
-        "a macro ends the run with code 3 after a file that isn't opened",
-        &[Given::Missing("nofile"), Given::File("m4exit(`3')")],
-        ROOM,
-        "",
-        "m4: cannot open `nofile'\n",
-        (3, Cause::Exited(3)),
-    ),
-    (
-        "a macro ends the run before a file that isn't opened",
-        &[Given::File("m4exit"), Given::Missing("nofile")],
-        ROOM,
-        "",
-        "",
-        (0, Cause::Exited(0)),
-    ),
+        end: (1, Cause::Exited(0), false),
+        ..QUIET
+    },
+    Row {
+        name: "the same code, written out",
+        files: &[Missing("nofile"), File("x m4exit(`0')y\n")],
+        output: "x ",
+        messages: "m4: cannot open `nofile'\n",
+        end: (1, Cause::Exited(0), false),
+        ..QUIET
+    },
+    Row {
+        name: "a macro ends the run with code 3 after a file that isn't opened",
+        files: &[Missing("nofile"), File("m4exit(`3')")],
+        messages: "m4: cannot open `nofile'\n",
+        end: (3, Cause::Exited(3), false),
+        ..QUIET
+    },
+    Row {
+        name: "a macro ends the run before a file that isn't opened",
+        files: &[File("m4exit"), Missing("nofile")],
+        end: (0, Cause::Exited(0), false),
+        ..QUIET
+    },
 ];
 
 // Readers that fail, and writers that are full.
 static FAULTS: [Row; 7] = [
-    (
-        "a reader that fails: what an earlier file saved is not read",
-        &[Given::File("m4wrap(`never')one\n"), Given::Failing("two\n")],
-        ROOM,
-        "one\ntwo\n",
-        "",
-        (1, Cause::Read),
-    ),
-    (
-        "a reader that fails",
-        &[
-            Given::File("one\n"),
-            Given::Failing("two\n"),
-            Given::File("three\n"),
-        ],
-        ROOM,
-        "one\ntwo\n",
-        "",
-        (1, Cause::Read),
-    ),
-    (
-        "a first reader that fails",
-        &[Given::Failing("ab ")],
-        ROOM,
-        "ab ",
-        "",
-        (1, Cause::Read),
-    ),
-    (
-        "room for three bytes of output",
-        &[Given::File("one two\n"), Given::File("three\n")],
-        (3, 1024),
-        "one",
-        "",
-        (1, Cause::Write),
-    ),
-    (
-        "room for five bytes of output",
-        &[Given::File("one two\n")],
-        (5, 1024),
-        "one t",
-        "",
-        (1, Cause::Write),
-    ),
-    (
-        "room for five bytes, of which the last comes of a string",
-        &[Given::File("abc `def' ghi\n")],
-        (5, 0),
-        "abc d",
-        "",
-        (1, Cause::Write),
-    ),
-    (
-        "room for two bytes of messages",
-        &[Given::File("x dnl(y)\nz\n")],
-        (1024, 2),
-        "x ",
-        "m4",
-        (1, Cause::Write),
-    ),
+    Row {
+        name: "a reader that fails: what an earlier file saved is not read",
+        files: &[File("m4wrap(`never')one\n"), Failing("two\n")],
+        output: "one\ntwo\n",
+        end: FAILED_READ,
+        ..QUIET
+    },
+    Row {
+        name: "a reader that fails",
+        files: &[File("one\n"), Failing("two\n"), File("three\n")],
+        output: "one\ntwo\n",
+        end: FAILED_READ,
+        ..QUIET
+    },
+    Row {
+        name: "a first reader that fails",
+        files: &[Failing("ab ")],
+        output: "ab ",
+        end: FAILED_READ,
+        ..QUIET
+    },
+    Row {
+        name: "room for three bytes of output",
+        files: &[File("one two\n"), File("three\n")],
+        room: (3, ROOM, ROOM),
+        output: "one",
+        end: FAILED_WRITE,
+        ..QUIET
+    },
+    Row {
+        name: "room for five bytes of output",
+        files: &[File("one two\n")],
+        room: (5, ROOM, ROOM),
+        output: "one t",
+        end: FAILED_WRITE,
+        ..QUIET
+    },
+    Row {
+        name: "room for five bytes, of which the last comes of a string",
+        files: &[File("abc `def' ghi\n")],
+        room: (5, 0, ROOM),
+        output: "abc d",
+        end: FAILED_WRITE,
+        ..QUIET
+    },
+    Row {
+        name: "room for two bytes of messages",
+        files: &[File("x dnl(y)\nz\n")],
+        room: (ROOM, 2, ROOM),
+        output: "x ",
+        messages: "m4",
+        end: FAILED_WRITE,
+        ..QUIET
+    },
 ];
 
 // A row's name, what a reader returns before it fails, the output, and the messages. What these bytes decide,
 // whatever follows them, was written, and nothing else.
-type Failing = (&'static str, &'static str, &'static str, &'static str);
+type Cut = (&'static str, &'static str, &'static str, &'static str);
 
-static OPEN_TOKENS: [Failing; 5] = [
+static OPEN_TOKENS: [Cut; 5] = [
     ("a name may go on", "ab", "", ""),
     ("a name has ended", "ab ", "ab ", ""),
     ("a comment has no end", "x#c", "x", ""),
@@ -198,7 +157,7 @@ static OPEN_TOKENS: [Failing; 5] = [
     ("an end-quote is cut", "changequote(<<,>>)a<<b>", "a", ""),
 ];
 
-static OPEN_CALLS: [Failing; 8] = [
+static OPEN_CALLS: [Cut; 8] = [
     ("an argument list is open", "ab define(`a", "ab ", ""),
     ("a call may have a list", "define(`f',`x')f", "", ""),
     ("a call has no list", "define(`f',`x')f ", "x ", ""),
@@ -241,144 +200,81 @@ const WARNS: &str = "m4:a.m4:2: Warning: non-numeric argument to builtin `undive
 // If a write fails, everything before it has to be written, and nothing after it. The order is: the
 // output before a call, then its messages, then its own output.
 static ORDER: [Row; 9] = [
-    (
-        "room for all",
-        &[Given::File(AFTER_A_STRING)],
-        ROOM,
-        "atext\nb\n",
-        WARNS,
-        (0, Cause::Done),
-    ),
-    (
-        "no room for what comes before a call",
-        &[Given::File(AFTER_A_STRING)],
-        (0, 1024),
-        "",
-        "",
-        (1, Cause::Write),
-    ),
-    (
-        "room for no text before a call but its beginning",
-        &[Given::File(AFTER_TEXT)],
-        (2, 1024),
-        "on",
-        "",
-        (1, Cause::Write),
-    ),
-    (
-        "no room for the message of a call",
-        &[Given::File(AFTER_A_STRING)],
-        (1024, 0),
-        "a",
-        "",
-        (1, Cause::Write),
-    ),
-    (
-        "room for two bytes of the message of a call",
-        &[Given::File(AFTER_TEXT)],
-        (1024, 2),
-        "one ",
-        "m4",
-        (1, Cause::Write),
-    ),
-    (
-        "no room for the output of a call",
-        &[Given::File(AFTER_TEXT)],
-        (4, 1024),
-        "one ",
-        WARNS,
-        (1, Cause::Write),
-    ),
-    (
-        "room for two bytes of the output of a call",
-        &[Given::File(AFTER_A_STRING)],
-        (3, 1024),
-        "ate",
-        WARNS,
-        (1, Cause::Write),
-    ),
-    (
-        "no room for the output after a file that isn't opened",
-        &[
-            Given::File("one\n"),
-            Given::Missing("nofile"),
-            Given::File("two\n"),
-        ],
-        (4, 1024),
-        "one\n",
-        "m4: cannot open `nofile'\n",
-        (1, Cause::Write),
-    ),
-    (
-        "no room for the diversions at the end",
-        &[Given::File("divert(1)text\ndivert(`x')")],
-        (0, 1024),
-        "",
-        "m4:a.m4:2: Warning: non-numeric argument to builtin `divert'\n",
-        (1, Cause::Write),
-    ),
+    Row {
+        name: "room for all",
+        files: &[File(AFTER_A_STRING)],
+        output: "atext\nb\n",
+        messages: WARNS,
+        ..QUIET
+    },
+    Row {
+        name: "no room for what comes before a call",
+        files: &[File(AFTER_A_STRING)],
+        room: (0, ROOM, ROOM),
+        end: FAILED_WRITE,
+        ..QUIET
+    },
+    Row {
+        name: "room for no text before a call but its beginning",
+        files: &[File(AFTER_TEXT)],
+        room: (2, ROOM, ROOM),
+        output: "on",
+        end: FAILED_WRITE,
+        ..QUIET
+    },
+    Row {
+        name: "no room for the message of a call",
+        files: &[File(AFTER_A_STRING)],
+        room: (ROOM, 0, ROOM),
+        output: "a",
+        end: FAILED_WRITE,
+        ..QUIET
+    },
+    Row {
+        name: "room for two bytes of the message of a call",
+        files: &[File(AFTER_TEXT)],
+        room: (ROOM, 2, ROOM),
+        output: "one ",
+        messages: "m4",
+        end: FAILED_WRITE,
+        ..QUIET
+    },
+    Row {
+        name: "no room for the output of a call",
+        files: &[File(AFTER_TEXT)],
+        room: (4, ROOM, ROOM),
+        output: "one ",
+        messages: WARNS,
+        end: FAILED_WRITE,
+        ..QUIET
+    },
+    Row {
+        name: "room for two bytes of the output of a call",
+        files: &[File(AFTER_A_STRING)],
+        room: (3, ROOM, ROOM),
+        output: "ate",
+        messages: WARNS,
+        end: FAILED_WRITE,
+        ..QUIET
+    },
+    Row {
+        name: "no room for the output after a file that isn't opened",
+        files: &[File("one\n"), Missing("nofile"), File("two\n")],
+        room: (4, ROOM, ROOM),
+        output: "one\n",
+        messages: "m4: cannot open `nofile'\n",
+        end: FAILED_WRITE,
+        ..QUIET
+    },
+    Row {
+        name: "no room for the diversions at the end",
+        files: &[File("divert(1)text\ndivert(`x')")],
+        room: (0, ROOM, ROOM),
+        messages: "m4:a.m4:2: Warning: non-numeric argument to builtin `divert'\n",
+        end: FAILED_WRITE,
+        ..QUIET
+    },
 ];
-
-// Makes the source at a place of a row.
-fn source(
-    rt: &(impl Abort + Alloc<A = Global>),
-    letter: u8,
-    given: Given,
-    block: usize,
-) -> Source<MemSource<'static>> {
-    let (text, fails) = match given {
-        Given::File(text) => (text, false),
-        Given::Failing(text) => (text, true),
-        Given::Missing(name) => {
-            return Source::Unopened {
-                name: bytes(rt, name.as_bytes()),
-            };
-        }
-    };
-    Source::Opened {
-        name: bytes(rt, &[letter, b'.', b'm', b'4']),
-        reader: MemSource::new(text.as_bytes(), block.max(1), fails),
-    }
-}
-
-// Makes the sources of a row.
-fn sources_of(
-    rt: &(impl Abort + Alloc<A = Global>),
-    given: &[Given],
-    block: usize,
-) -> Result<Vec<Source<MemSource<'static>>>, AllocError> {
-    let mut sources = Vec::new(rt.alloc());
-    let mut letter = b'a';
-    for one in given {
-        sources.push(source(rt, letter, *one, block))?;
-        letter = letter.saturating_add(1);
-    }
-    Ok(sources)
-}
-
-// Reports a row.
-fn seen_of(
-    rt: &(impl Abort + Alloc<A = Global>),
-    given: &[Given],
-    block: usize,
-    room: (usize, usize),
-) -> Result<Vec<u8>, AllocError> {
-    let mut sources = sources_of(rt, given, block)?;
-    let seen = run_over(rt, options(USUAL), &mut None, &mut sources, room, AT_MOST);
-    printed_seen(rt.alloc(), &seen)
-}
-
-// Compares the report on each row, at each size of a block.
-fn compare(rt: &(impl Abort + Alloc<A = Global>), rows: &[Row]) {
-    for &(name, sources, room, output, messages, (status, cause)) in rows {
-        for block in BLOCKS {
-            let end = ended(status, cause);
-            let want = printed_run(rt.alloc(), output.as_bytes(), messages.as_bytes(), end);
-            let got = seen_of(rt, sources, block, room);
-            agrees_by(rt, name, block, want, got);
-        }
-    }
-}
 
 #[test]
 fn files_in_their_order(rt: HostRuntime) {
@@ -395,30 +291,29 @@ fn faults_of_readers_and_writers(rt: HostRuntime) {
     compare(&rt, &FAULTS);
 }
 
-// Compares the report on each run whose first reader fails, at each size of a block.
-fn compare_failing(rt: &(impl Abort + Alloc<A = Global>), rows: &[Failing]) {
+#[test]
+fn output_and_messages_in_order(rt: HostRuntime) {
+    compare(&rt, &ORDER);
+}
+
+// Compares each run whose first reader fails, at each size of a block.
+fn compare_cut(rt: &(impl Abort + Alloc<A = Global>), rows: &[Cut]) {
     for &(name, text, output, messages) in rows {
         for block in BLOCKS {
-            let end = ended(1, Cause::Read);
-            let want = printed_run(rt.alloc(), output.as_bytes(), messages.as_bytes(), end);
-            let given = [Given::Failing(text), Given::File("never\n")];
-            let got = seen_of(rt, &given, block, ROOM);
-            agrees_by(rt, name, block, want, got);
+            let files = [Failing(text), File("never\n")];
+            let seen = run_fresh(rt, options(USUAL), &files, AMPLE, block);
+            let want = expected(rt.alloc(), (output, messages), FAILED_READ, &[]);
+            agrees_by(rt, name, block, want, printed_seen(rt.alloc(), &seen));
         }
     }
 }
 
 #[test]
 fn readers_that_fail_within_a_token(rt: HostRuntime) {
-    compare_failing(&rt, &OPEN_TOKENS);
+    compare_cut(&rt, &OPEN_TOKENS);
 }
 
 #[test]
 fn readers_that_fail_within_a_call(rt: HostRuntime) {
-    compare_failing(&rt, &OPEN_CALLS);
-}
-
-#[test]
-fn output_and_messages_in_order(rt: HostRuntime) {
-    compare(&rt, &ORDER);
+    compare_cut(&rt, &OPEN_CALLS);
 }

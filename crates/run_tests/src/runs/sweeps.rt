@@ -1,122 +1,138 @@
-//! A device that fails after each number of bytes: the run ends there with status 1, and what it wrote is a beginning
+//! Devices that fail, after each number of bytes: the run ends there with status 1, and what it wrote is a beginning
 //! of what it writes without a failure. Manual: "Exiting from m4", "Fast loading of frozen state".
 
-use super::given::{AT_MOST, BLOCKS, ROOM, Seen, USUAL, bytes, freezing, sink};
+use super::given::{ROOM, Seen};
+use super::rows::Given::{Failing, File};
+use super::rows::{
+    FAILED_WRITE, QUIET, Row, Start, compare, frozen_of, options_of, run_from, run_row,
+};
+use super::whole_texts::{BEGIN, END, NAMES};
 use m4_engine::ending::Cause;
-use m4_engine::options::Options;
-use m4_engine::run::run;
-use m4_engine::source::Source;
 use m4_frozen::fault::{FrozenFault, FrozenKind};
-use m4_state::memory::MemSource;
-use std::alloc::Global;
+use part_tests::report::Report;
+use std::alloc::{AllocError, Global};
 use std::process::Abort;
 
-/// A run from a frozen file that freezes, and what it writes.
-struct Whole {
-    name: &'static str,
-    frozen: &'static str,
-    file: &'static str,
-    output: &'static str,
-    messages: &'static str,
-    frozen_text: &'static str,
-}
+const DEFINES: &str = "V1\nF6,6\ndefinedefine\nT1,1\nab\n";
 
-static ROWS: [Whole; 3] = [
-    Whole {
-        name: "diversions",
-        frozen: "V1\nF6,6\ndivertdivert\nF3,3\ndnldnl\n",
-        file: "x\ndivert(2)two\ndivert(1)one\ndivert(2)dnl\n",
-        output: "x\n",
-        messages: "",
-        frozen_text: "# m4 frozen state\nV1\nF6,6\ndivertdivert\nF3,3\ndnldnl\nD1,4\none\n\nD2,4\ntwo\n\n\
-                      # End of frozen state file\n",
+static FAILING: [Row; 4] = [
+    Row {
+        name: "an output that accepts three bytes of a greeting",
+        start: Start::After("define(`hi',`Hello $1.')dnl\n"),
+        files: &[File("hi(`you')\n")],
+        room: (3, ROOM, ROOM),
+        output: "Hel",
+        end: FAILED_WRITE,
+        ..QUIET
     },
-    Whole {
-        name: "a state that is frozen again",
-        frozen: "V1\nF6,6\ndefinedefine\nT1,1\nab\n",
-        file: "a define(`c',`d$1')a\n",
+    Row {
+        name: "messages that fail at once",
+        files: &[File("define(`b',`2')define(`a',`1')dumpdef(`b',`a',`dnl',`z')\n")],
+        room: (ROOM, 0, ROOM),
+        end: FAILED_WRITE,
+        ..QUIET
+    },
+    Row {
+        name: "a frozen text of which 20 bytes are accepted",
+        start: Start::Frozen(DEFINES),
+        files: &[File("a define(`c',`d$1')a\n")],
+        room: (ROOM, ROOM, 20),
         output: "b b\n",
-        messages: "",
-        frozen_text: "# m4 frozen state\nV1\nT1,1\nab\nT1,3\ncd$1\nF6,6\ndefinedefine\n# End of frozen state file\n",
+        end: FAILED_WRITE,
+        frozen_text: Some(&["# m4 frozen state\nV1"]),
+        ..QUIET
     },
-    Whole {
-        name: "definitions as messages",
-        frozen: "V1\nF7,7\ndumpdefdumpdef\nT1,1\na1\nT1,1\nb2\nF3,3\ndnldnl\n",
-        file: "dumpdef(`b',`a',`dnl',`z')\n",
-        output: "\n",
-        messages: "m4:a.m4:1: Warning: undefined macro `z'\na:\t`1'\nb:\t`2'\ndnl:\t<dnl>\n",
-        frozen_text: "# m4 frozen state\nV1\nT1,1\na1\nT1,1\nb2\nF3,3\ndnldnl\nF7,7\ndumpdefdumpdef\n\
-                      # End of frozen state file\n",
+    Row {
+        name: "a frozen file whose reader returns five bytes",
+        start: Start::Broken("V1\nF6"),
+        files: &[File("a define(`c',`d$1')a\n")],
+        end: (
+            1,
+            Cause::Frozen(FrozenFault {
+                kind: FrozenKind::Read,
+                offset: 5,
+            }),
+            false,
+        ),
+        frozen_text: Some(&[]),
+        ..QUIET
     },
 ];
 
-/// How many bytes each device gives or takes before it fails; a device that does not fail has enough.
-#[derive(Clone, Copy)]
-pub struct Limits {
-    pub frozen: usize,
-    pub file: usize,
-    pub output: usize,
-    pub messages: usize,
-    pub frozen_text: usize,
+#[test]
+fn a_device_fails(rt: HostRuntime) {
+    compare(&rt, &FAILING);
 }
 
-/// The limits of devices that do not fail.
-pub const ENOUGH: Limits = Limits {
-    frozen: ROOM.0,
-    file: ROOM.0,
-    output: ROOM.0,
-    messages: ROOM.0,
-    frozen_text: ROOM.0,
-};
+// Runs over one file, and what they leave without a failure.
+static WHOLE: [Row; 7] = [
+    Row {
+        name: "diversions out of order, which are frozen",
+        files: &[File("divert(2)two\ndivert(1)one\ndivert(2)dnl\n")],
+        frozen_text: Some(&[BEGIN, NAMES, "D1,4\none\n\nD2,4\ntwo\n\n", END]),
+        ..QUIET
+    },
+    Row {
+        name: "diversions that are issued after a reload",
+        start: Start::After("divert(2)two\ndivert(1)one\ndivert(2)dnl\n"),
+        files: &[File("more\n")],
+        output: "one\ntwo\nmore\n",
+        ..QUIET
+    },
+    Row {
+        name: "output and diversions from a frozen file",
+        start: Start::Frozen("V1\nF6,6\ndivertdivert\nF3,3\ndnldnl\n"),
+        files: &[File("x\ndivert(2)two\ndivert(1)one\ndivert(2)dnl\n")],
+        output: "x\n",
+        frozen_text: Some(&[
+            BEGIN,
+            "F6,6\ndivertdivert\nF3,3\ndnldnl\nD1,4\none\n\nD2,4\ntwo\n\n",
+            END,
+        ]),
+        ..QUIET
+    },
+    Row {
+        name: "a state that is frozen again",
+        start: Start::Frozen(DEFINES),
+        files: &[File("a define(`c',`d$1')a\n")],
+        output: "b b\n",
+        frozen_text: Some(&[BEGIN, "T1,1\nab\nT1,3\ncd$1\nF6,6\ndefinedefine\n", END]),
+        ..QUIET
+    },
+    Row {
+        name: "a placeholder that is frozen again",
+        start: Start::Frozen("V1\nF6,6\nregexpregexp\n"),
+        files: &[File("regexp(`a',`b')!\n")],
+        output: "!\n",
+        messages: "m4:b.m4:1: Warning: builtin `regexp' requested by frozen file is not supported\n",
+        frozen_text: Some(&[BEGIN, "F6,6\nregexpregexp\n", END]),
+        ..QUIET
+    },
+    Row {
+        name: "definitions as messages",
+        files: &[File("define(`b',`2')define(`a',`1')dumpdef(`b',`a',`dnl',`z')\n")],
+        output: "\n",
+        messages: "m4:a.m4:1: Warning: undefined macro `z'\na:\t`1'\nb:\t`2'\ndnl:\t<dnl>\n",
+        ..QUIET
+    },
+    Row {
+        name: "definitions as messages, from a frozen file",
+        start: Start::Frozen("V1\nF7,7\ndumpdefdumpdef\nT1,1\na1\nT1,1\nb2\nF3,3\ndnldnl\n"),
+        files: &[File("dumpdef(`b',`a',`dnl',`z')\n")],
+        output: "\n",
+        messages: "m4:b.m4:1: Warning: undefined macro `z'\na:\t`1'\nb:\t`2'\ndnl:\t<dnl>\n",
+        frozen_text: Some(&[
+            BEGIN,
+            "T1,1\na1\nT1,1\nb2\nF3,3\ndnldnl\nF7,7\ndumpdefdumpdef\n",
+            END,
+        ]),
+        ..QUIET
+    },
+];
 
-/// Returns a reader that gives this many bytes of a text and then fails, or all of it.
-pub fn reader(text: &[u8], limit: usize, block: usize) -> MemSource<'_> {
-    let given = limit.min(text.len());
-    MemSource::new(text.split_at(given).0, block.max(1), limit < ROOM.0)
-}
-
-/// Runs over a file, a.m4, from this frozen file, with devices that fail after these numbers of bytes.
-pub fn run_within<'a>(
-    rt: &(impl Abort + Alloc<A = Global>),
-    options: Options,
-    frozen: &mut Option<MemSource<'a>>,
-    file: &'a str,
-    limits: Limits,
-    block: usize,
-) -> Seen {
-    let mut output = sink(rt, limits.output, AT_MOST);
-    let mut messages = sink(rt, limits.messages, AT_MOST);
-    let mut frozen_text = sink(rt, limits.frozen_text, AT_MOST);
-    let mut sources = [Source::Opened {
-        name: bytes(rt, b"a.m4"),
-        reader: reader(file.as_bytes(), limits.file, block),
-    }];
-    let ending = run(
-        rt.alloc(),
-        options,
-        frozen,
-        &mut sources,
-        &mut output,
-        &mut messages,
-        &mut frozen_text,
-    );
-    Seen {
-        output,
-        messages,
-        frozen_text,
-        ending,
-    }
-}
-
-/// Runs a row with devices that fail after these numbers of bytes.
-fn run_row(
-    rt: &(impl Abort + Alloc<A = Global>),
-    row: &Whole,
-    limits: Limits,
-    block: usize,
-) -> Seen {
-    let mut frozen = Some(reader(row.frozen.as_bytes(), limits.frozen, block));
-    run_within(rt, freezing(USUAL), &mut frozen, row.file, limits, block)
+#[test]
+fn without_a_failure_all_is_written(rt: HostRuntime) {
+    compare(&rt, &WHOLE);
 }
 
 /// The device that fails.
@@ -129,40 +145,84 @@ enum Device {
     FrozenText,
 }
 
-/// Returns the limits of a run one of whose devices fails after this many bytes.
-fn limited(device: Device, after: usize) -> Limits {
-    match device {
-        Device::Frozen => Limits {
-            frozen: after,
-            ..ENOUGH
-        },
-        Device::File => Limits {
-            file: after,
-            ..ENOUGH
-        },
-        Device::Output => Limits {
-            output: after,
-            ..ENOUGH
-        },
-        Device::Messages => Limits {
-            messages: after,
-            ..ENOUGH
-        },
-        Device::FrozenText => Limits {
-            frozen_text: after,
-            ..ENOUGH
-        },
+/// Returns the text of a row's file.
+fn file_of(row: &Row) -> &'static str {
+    match row.files {
+        [File(text)] => *text,
+        _ => "",
     }
 }
 
-/// Returns the text that a device gives or takes in a run without a failure.
-fn text_of(row: &Whole, device: Device) -> &'static str {
+/// A frozen file, and whether its reader fails after it.
+type Frozen = Option<(Vec<u8>, bool)>;
+
+/// Runs a row from a frozen file whose reader fails after this many bytes.
+fn run_broken(
+    rt: &(impl Abort + Alloc<A = Global>),
+    row: &Row,
+    frozen: &Frozen,
+    after: usize,
+    block: usize,
+) -> Seen {
+    match frozen {
+        Some((text, _)) => {
+            let given = text.split_at(after.min(text.len())).0;
+            run_from(
+                rt,
+                options_of(row),
+                (given, true),
+                row.files,
+                row.room,
+                block,
+            )
+        }
+        None => panic!(rt; "{}: no frozen file", row.name),
+    }
+}
+
+/// Runs a row, one of whose devices fails after this many bytes.
+fn run_cut(
+    rt: &(impl Abort + Alloc<A = Global>),
+    row: &Row,
+    frozen: &Frozen,
+    (device, after): (Device, usize),
+    block: usize,
+) -> Seen {
+    let file = file_of(row);
+    let files = row.files;
     match device {
-        Device::Frozen => row.frozen,
-        Device::File => row.file,
-        Device::Output => row.output,
-        Device::Messages => row.messages,
-        Device::FrozenText => row.frozen_text,
+        Device::Frozen => run_broken(rt, row, frozen, after, block),
+        Device::File => {
+            let cut = [Failing(file.get(..after).unwrap_or(file))];
+            run_row(rt, row, frozen, &cut, row.room, block)
+        }
+        Device::Output => run_row(rt, row, frozen, files, (after, ROOM, ROOM), block),
+        Device::Messages => run_row(rt, row, frozen, files, (ROOM, after, ROOM), block),
+        Device::FrozenText => run_row(rt, row, frozen, files, (ROOM, ROOM, after), block),
+    }
+}
+
+/// Returns the text that a row freezes.
+fn frozen_text_of(alloc: Global, row: &Row) -> Result<Vec<u8>, AllocError> {
+    let mut report = Report::new(alloc);
+    for part in row.frozen_text.unwrap_or(&[]) {
+        report.add(part.as_bytes());
+    }
+    report.text()
+}
+
+/// Returns for how many numbers of bytes a device fails after them: a reader may have returned all of its text, and a
+/// writer has not accepted all of its own.
+fn failures_of(row: &Row, frozen: &Frozen, frozen_text: &[u8], device: Device) -> usize {
+    match device {
+        Device::Frozen => match frozen {
+            Some((text, _)) => text.len().saturating_add(1),
+            None => 0,
+        },
+        Device::File => file_of(row).len().saturating_add(1),
+        Device::Output => row.output.len(),
+        Device::Messages => row.messages.len(),
+        Device::FrozenText => frozen_text.len(),
     }
 }
 
@@ -181,7 +241,7 @@ fn cause(device: Device, after: usize) -> Cause {
 /// Returns whether a run wrote what it has to: the failed writer's text up to the failure, and of the others a
 /// beginning. Only a failed write of the frozen text leaves any of it, and nothing is written if the frozen file is not
 /// loaded.
-fn is_right(row: &Whole, device: Device, after: usize, seen: &Seen) -> bool {
+fn is_right(row: &Row, whole: &[u8], device: Device, after: usize, seen: &Seen) -> bool {
     let output = seen.output.written();
     let messages = seen.messages.written();
     let frozen_text = seen.frozen_text.written();
@@ -195,20 +255,27 @@ fn is_right(row: &Whole, device: Device, after: usize, seen: &Seen) -> bool {
         Device::FrozenText => {
             output == row.output.as_bytes()
                 && messages == row.messages.as_bytes()
-                && row.frozen_text.as_bytes().starts_with(frozen_text)
+                && whole.starts_with(frozen_text)
                 && frozen_text.len() == after
         }
     };
     begins && left && seen.ending.status == 1 && seen.ending.cause == cause(device, after)
 }
 
+/// How many bytes devices return and accept at a time while one fails.
+const SIZES: [usize; 2] = [2, 4096];
+
 /// Lets a device fail after each number of bytes of its text.
-fn sweep(rt: &(impl Abort + Alloc<A = Global>), row: &Whole, device: Device) {
-    for after in 0..text_of(row, device).len() {
-        for block in BLOCKS {
-            let seen = run_row(rt, row, limited(device, after), block);
+fn sweep(rt: &(impl Abort + Alloc<A = Global>), row: &Row, device: Device) {
+    let Ok(whole) = frozen_text_of(rt.alloc(), row) else {
+        panic!(rt; "out of memory");
+    };
+    let frozen = frozen_of(rt, row.start, 4096);
+    for after in 0..failures_of(row, &frozen, &whole, device) {
+        for block in SIZES {
+            let seen = run_cut(rt, row, &frozen, (device, after), block);
             assert!(rt;
-                is_right(row, device, after, &seen),
+                is_right(row, &whole, device, after, &seen),
                 "{}: {device:?} fails after {after} bytes, read {block} at a time: {:?}\n{}\n{}\n{}",
                 row.name,
                 seen.ending,
@@ -222,7 +289,7 @@ fn sweep(rt: &(impl Abort + Alloc<A = Global>), row: &Whole, device: Device) {
 
 #[test]
 fn readers_fail_after_each_byte(rt: HostRuntime) {
-    for row in &ROWS {
+    for row in &WHOLE {
         sweep(&rt, row, Device::Frozen);
         sweep(&rt, row, Device::File);
     }
@@ -230,33 +297,9 @@ fn readers_fail_after_each_byte(rt: HostRuntime) {
 
 #[test]
 fn writers_fail_after_each_byte(rt: HostRuntime) {
-    for row in &ROWS {
+    for row in &WHOLE {
         sweep(&rt, row, Device::Output);
         sweep(&rt, row, Device::Messages);
         sweep(&rt, row, Device::FrozenText);
-    }
-}
-
-/// Returns whether a run without a failure wrote everything.
-fn is_whole(row: &Whole, seen: &Seen) -> bool {
-    seen.output.written() == row.output.as_bytes()
-        && seen.messages.written() == row.messages.as_bytes()
-        && seen.frozen_text.written() == row.frozen_text.as_bytes()
-        && seen.ending.status == 0
-        && seen.ending.cause == Cause::Done
-}
-
-#[test]
-fn without_a_failure_all_is_written(rt: HostRuntime) {
-    for row in &ROWS {
-        for block in BLOCKS {
-            let seen = run_row(&rt, row, ENOUGH, block);
-            assert!(&rt;
-                is_whole(row, &seen),
-                "{}, read {block} at a time: {:?}",
-                row.name,
-                seen.ending
-            );
-        }
     }
 }

@@ -1,15 +1,9 @@
 //! Whole frozen texts of runs from the fresh state, byte for byte, with readers of several sizes. Manual: "Fast
 //! loading of frozen state", "Frozen file format".
 
-use super::given::{
-    AT_MOST, BLOCKS, ROOM, USUAL, ended, files, freezing, printed_frozen, run_over,
-};
-use super::report::printed_freezing;
-use super::shows::agrees_by;
+use super::rows::Given::File;
+use super::rows::{QUIET, Row, compare};
 use m4_engine::ending::Cause;
-use m4_engine::options::Options;
-use std::alloc::{AllocError, Global};
-use std::process::Abort;
 
 /// The first two lines of a frozen text.
 pub const BEGIN: &str = "# m4 frozen state\nV1\n";
@@ -17,7 +11,17 @@ pub const BEGIN: &str = "# m4 frozen state\nV1\n";
 /// Its last line.
 pub const END: &str = "# End of frozen state file\n";
 
-/// The directives of the fresh state, in the order of their names, in parts: those that begin with an underscore.
+/// The directives of the fresh state, in the order of their names.
+pub const NAMES: &str =
+    "F8,8\n__file____file__\nT7,0\n__gnu__\nF8,8\n__line____line__\nT8,0\n__unix__\nF7,7\nbuiltinbuiltin\n\
+    F9,9\nchangecomchangecom\nF11,11\nchangequotechangequote\nF4,4\ndecrdecr\nF6,6\ndefinedefine\n\
+    F4,4\ndefndefn\nF6,6\ndivertdivert\nF6,6\ndivnumdivnum\nF3,3\ndnldnl\nF7,7\ndumpdefdumpdef\n\
+    F8,8\nerrprinterrprint\nF4,4\nevaleval\nF5,5\nifdefifdef\nF6,6\nifelseifelse\nF4,4\nincrincr\n\
+    F5,5\nindexindex\nF5,5\nindirindir\nF3,3\nlenlen\nF6,6\nm4exitm4exit\nF6,6\nm4wrapm4wrap\n\
+    F6,6\npopdefpopdef\nF7,7\npushdefpushdef\nF5,5\nshiftshift\nF6,6\nsubstrsubstr\n\
+    F8,8\ntranslittranslit\nF8,8\nundefineundefine\nF8,8\nundivertundivert\n";
+
+/// The same in parts, for names between them: those that begin with an underscore.
 pub const UNDERSCORES: &str =
     "F8,8\n__file____file__\nT7,0\n__gnu__\nF8,8\n__line____line__\nT8,0\n__unix__\n";
 
@@ -56,74 +60,37 @@ const PREFIXED: &str =
     F9,6\nm4_substrsubstr\nF11,8\nm4_translittranslit\nF11,8\nm4_undefineundefine\n\
     F11,8\nm4_undivertundivert\n";
 
-/// The frozen text of the fresh state, in parts.
-pub const FRESH_TEXT: &[&str] = &[
-    BEGIN,
-    UNDERSCORES,
-    BUILTIN,
-    CHANGES,
-    DECR_TO_EVAL,
-    IFDEF_TO_PUSHDEF,
-    SHIFT,
-    SUBSTR_ON,
-    END,
-];
+/// The frozen text of the fresh state.
+pub const FRESH_TEXT: &[&str] = &[BEGIN, NAMES, END];
 
-/// A file, what a run over it writes and how it ends, and the parts of the frozen text.
-struct Frozen {
-    name: &'static str,
-    prefix: bool,
-    file: &'static str,
-    output: &'static str,
-    messages: &'static str,
-    end: (u8, Cause),
-    frozen_text: &'static [&'static str],
-}
-
-/// A run that reads everything and writes nothing but the fresh state.
-const FRESH: Frozen = Frozen {
-    name: "",
-    prefix: false,
-    file: "",
-    output: "",
-    messages: "",
-    end: (0, Cause::Done),
-    frozen_text: FRESH_TEXT,
+/// A run from the fresh state that freezes.
+const FRESH: Row = Row {
+    frozen_text: Some(FRESH_TEXT),
+    ..QUIET
 };
 
-static NAMES: [Frozen; 5] = [
-    Frozen {
+static STATES: [Row; 8] = [
+    Row {
         name: "the fresh state",
         ..FRESH
     },
-    Frozen {
+    Row {
         name: "the fresh state with prefixes",
         prefix: true,
-        frozen_text: &[BEGIN, PREFIXED, END],
+        frozen_text: Some(&[BEGIN, PREFIXED, END]),
         ..FRESH
     },
-    Frozen {
+    Row {
         name: "a stack of two definitions",
-        file: "define(`x',`1')pushdef(`x',`2')dnl\n",
-        frozen_text: &[
-            BEGIN,
-            UNDERSCORES,
-            BUILTIN,
-            CHANGES,
-            DECR_TO_EVAL,
-            IFDEF_TO_PUSHDEF,
-            SHIFT,
-            SUBSTR_ON,
-            "T1,1\nx1\nT1,1\nx2\n",
-            END,
-        ],
+        files: &[File("define(`x',`1')pushdef(`x',`2')dnl\n")],
+        frozen_text: Some(&[BEGIN, NAMES, "T1,1\nx1\nT1,1\nx2\n", END]),
         ..FRESH
     },
-    Frozen {
+    Row {
         name: "a builtin under another name",
-        file: "define(`cut',defn(`shift'))undefine(`shift')cut(1,2,3) shift(1)\n",
+        files: &[File("define(`cut',defn(`shift'))undefine(`shift')cut(1,2,3) shift(1)\n")],
         output: "2,3 shift(1)\n",
-        frozen_text: &[
+        frozen_text: Some(&[
             BEGIN,
             UNDERSCORES,
             BUILTIN,
@@ -133,13 +100,68 @@ static NAMES: [Frozen; 5] = [
             IFDEF_TO_PUSHDEF,
             SUBSTR_ON,
             END,
-        ],
+        ]),
         ..FRESH
     },
-    Frozen {
+    Row {
+        name: "a builtin under another name, which is called later",
+        files: &[File("define(`cut',defn(`shift'))undefine(`shift')dnl\n")],
+        frozen_text: Some(&[
+            BEGIN,
+            UNDERSCORES,
+            BUILTIN,
+            CHANGES,
+            "F3,5\ncutshift\n",
+            DECR_TO_EVAL,
+            IFDEF_TO_PUSHDEF,
+            SUBSTR_ON,
+            END,
+        ]),
+        ..FRESH
+    },
+    Row {
+        name: "a name that is called later",
+        files: &[File("define(`hi',`Hello $1.')dnl\n")],
+        frozen_text: Some(&[
+            BEGIN,
+            UNDERSCORES,
+            BUILTIN,
+            CHANGES,
+            DECR_TO_EVAL,
+            "T2,9\nhiHello $1.\n",
+            IFDEF_TO_PUSHDEF,
+            SHIFT,
+            SUBSTR_ON,
+            END,
+        ]),
+        ..FRESH
+    },
+    Row {
+        name: "three names in another order, the first of them defined again",
+        files: &[File(
+            "define(`b',`B')define(`a',`A')define(`c',`C')undefine(`b')define(`b',`B')dnl\n",
+        )],
+        frozen_text: Some(&[
+            BEGIN,
+            UNDERSCORES,
+            "T1,1\naA\nT1,1\nbB\n",
+            BUILTIN,
+            "T1,1\ncC\n",
+            CHANGES,
+            DECR_TO_EVAL,
+            IFDEF_TO_PUSHDEF,
+            SHIFT,
+            SUBSTR_ON,
+            END,
+        ]),
+        ..FRESH
+    },
+    Row {
         name: "three names, one of them defined again",
-        file: "define(`b',`1')define(`a',`2')define(`c',`3')undefine(`a')define(`a',`4')dnl\n",
-        frozen_text: &[
+        files: &[File(
+            "define(`b',`1')define(`a',`2')define(`c',`3')undefine(`a')define(`a',`4')dnl\n",
+        )],
+        frozen_text: Some(&[
             BEGIN,
             UNDERSCORES,
             "T1,1\na4\nT1,1\nb1\n",
@@ -151,121 +173,58 @@ static NAMES: [Frozen; 5] = [
             SHIFT,
             SUBSTR_ON,
             END,
-        ],
+        ]),
         ..FRESH
     },
 ];
 
-static SETTINGS: [Frozen; 5] = [
-    Frozen {
+static SETTINGS: [Row; 6] = [
+    Row {
         name: "quotes that are changed, and no comments",
-        file: "changequote([,])changecom(,)dnl\n",
-        frozen_text: &[
-            BEGIN,
-            "Q1,1\n[]\nC0,0\n\n",
-            UNDERSCORES,
-            BUILTIN,
-            CHANGES,
-            DECR_TO_EVAL,
-            IFDEF_TO_PUSHDEF,
-            SHIFT,
-            SUBSTR_ON,
-            END,
-        ],
+        files: &[File("changequote([,])changecom(,)dnl\n")],
+        frozen_text: Some(&[BEGIN, "Q1,1\n[]\nC0,0\n\n", NAMES, END]),
         ..FRESH
     },
-    Frozen {
+    Row {
         name: "diversions that were begun out of order",
-        file: "divert(2)two\ndivert(1)one\ndivert(2)dnl\n",
-        frozen_text: &[
-            BEGIN,
-            UNDERSCORES,
-            BUILTIN,
-            CHANGES,
-            DECR_TO_EVAL,
-            IFDEF_TO_PUSHDEF,
-            SHIFT,
-            SUBSTR_ON,
-            "D1,4\none\n\nD2,4\ntwo\n\n",
-            END,
-        ],
+        files: &[File("divert(2)two\ndivert(1)one\ndivert(2)dnl\n")],
+        frozen_text: Some(&[BEGIN, NAMES, "D1,4\none\n\nD2,4\ntwo\n\n", END]),
         ..FRESH
     },
-    Frozen {
+    Row {
         name: "a negative current number",
-        file: "divert(-1)junk\n",
-        frozen_text: &[
-            BEGIN,
-            UNDERSCORES,
-            BUILTIN,
-            CHANGES,
-            DECR_TO_EVAL,
-            IFDEF_TO_PUSHDEF,
-            SHIFT,
-            SUBSTR_ON,
-            "D-1,0\n\n",
-            END,
-        ],
+        files: &[File("divert(-1)junk\n")],
+        frozen_text: Some(&[BEGIN, NAMES, "D-1,0\n\n", END]),
         ..FRESH
     },
-    Frozen {
+    Row {
         name: "a current number without text",
-        file: "divert(3)dnl\n",
-        frozen_text: &[
-            BEGIN,
-            UNDERSCORES,
-            BUILTIN,
-            CHANGES,
-            DECR_TO_EVAL,
-            IFDEF_TO_PUSHDEF,
-            SHIFT,
-            SUBSTR_ON,
-            "D3,0\n\n",
-            END,
-        ],
+        files: &[File("divert(3)dnl\n")],
+        frozen_text: Some(&[BEGIN, NAMES, "D3,0\n\n", END]),
         ..FRESH
     },
-    Frozen {
+    Row {
+        name: "a string without an end, at once",
+        files: &[File("`abc")],
+        messages: "m4:a.m4:1: ERROR: end of input in string\n",
+        end: (1, Cause::EndInString, false),
+        frozen_text: Some(&[]),
+        ..FRESH
+    },
+    Row {
         name: "a string without an end",
-        file: "x\n`abc",
+        files: &[File("x\n`abc")],
         output: "x\n",
         messages: "m4:a.m4:2: ERROR: end of input in string\n",
-        end: (1, Cause::EndInString),
-        frozen_text: &[],
+        end: (1, Cause::EndInString, false),
+        frozen_text: Some(&[]),
         ..FRESH
     },
 ];
-
-/// Runs over a row's file and reports the run.
-fn seen(
-    rt: &(impl Abort + Alloc<A = Global>),
-    row: &Frozen,
-    block: usize,
-) -> Result<Vec<u8>, AllocError> {
-    let options = Options {
-        prefix: row.prefix,
-        ..freezing(USUAL)
-    };
-    let mut sources = files(rt, &[(b"a.m4", row.file.as_bytes())], block);
-    let seen = run_over(rt, options, &mut None, &mut sources, ROOM, AT_MOST);
-    printed_frozen(rt.alloc(), &seen)
-}
-
-/// Compares the report on each row, at each size of a block.
-fn compare(rt: &(impl Abort + Alloc<A = Global>), rows: &[Frozen]) {
-    for row in rows {
-        for block in BLOCKS {
-            let end = ended(row.end.0, row.end.1);
-            let written = (row.output, row.messages);
-            let want = printed_freezing(rt.alloc(), written, end, row.frozen_text);
-            agrees_by(rt, row.name, block, want, seen(rt, row, block));
-        }
-    }
-}
 
 #[test]
 fn names_are_frozen(rt: HostRuntime) {
-    compare(&rt, &NAMES);
+    compare(&rt, &STATES);
 }
 
 #[test]

@@ -1,7 +1,8 @@
-//! The line of a row that is followed in a world in memory, and the report on its end.
+//! Lines in rows: the words of a line, the world in memory in which it is followed, and what it leaves.
 
 use super::worlds::FILES;
 use crate::runs::given::sink;
+use crate::runs::shows::agrees;
 use m4_state::memory::MemSink;
 use m4_tool::follow::follow;
 use m4_tool::followed::Followed;
@@ -15,49 +16,62 @@ use std::process::Abort;
 /// How many bytes a writer accepts at a time.
 pub const AT_MOST: usize = 7;
 
-/// What a row gives besides the words of its line: standard input, and whether it fails after these bytes;
-/// whether a file can be made; and the room of the output and of the messages.
-#[derive(Clone, Copy)]
-pub struct Around {
+/// The words of a line; standard input, and whether it fails after these bytes; whether a file can be made; the room of
+/// the output and of the messages; and what the line leaves: its status, its output, at least and at most if a reader
+/// fails, its messages, and the name and the bytes of the file that is made.
+pub struct Row {
+    pub name: &'static str,
+    pub words: &'static [&'static str],
     pub input: &'static [u8],
     pub fails: bool,
     pub makes: bool,
     pub room: usize,
     pub space: usize,
+    pub status: u8,
+    pub output: &'static str,
+    pub most: Option<&'static str>,
+    pub messages: &'static str,
+    pub made: Option<(&'static str, &'static str)>,
 }
 
-/// Empty standard input, a file that can be made, and ample room.
-pub const USUAL: Around = Around {
+/// A line with empty standard input and ample room, which writes nothing.
+pub const QUIET: Row = Row {
+    name: "",
+    words: &[],
     input: b"",
     fails: false,
     makes: true,
     room: 1000,
     space: 1000,
+    status: 0,
+    output: "",
+    most: None,
+    messages: "",
+    made: None,
 };
 
 // Makes the world of a row.
-fn world_of(alloc: Global, around: Around) -> MemWorld<'static> {
-    let mut world = MemWorld::new(alloc, &FILES, around.input, around.makes);
-    if around.fails {
+fn world_of(alloc: Global, row: &Row) -> MemWorld<'static> {
+    let mut world = MemWorld::new(alloc, &FILES, row.input, row.makes);
+    if row.fails {
         world.fail_input();
     }
     world
 }
 
-/// Follows a line. If it is refused, the test ends.
+/// Follows the line of a row. If it is refused, the test ends.
 pub fn end_of<W: Shows>(
     rt: &(impl Abort + Alloc<A = Global>),
-    words: &[&str],
-    around: Around,
+    row: &Row,
     out: &mut W,
     messages: &mut W,
 ) -> Followed<MemWorld<'static>> {
-    match read_line(rt.alloc(), words) {
+    match read_line(rt.alloc(), row.words) {
         Ok(line) => {
-            let world = world_of(rt.alloc(), around);
+            let world = world_of(rt.alloc(), row);
             follow(rt.alloc(), &line, world, out, messages)
         }
-        Err(_fault) => panic!(rt; "a line that is refused"),
+        Err(_fault) => panic!(rt; "{}: a line that is refused", row.name),
     }
 }
 
@@ -76,50 +90,64 @@ pub fn add_made(world: &MemWorld<'static>, report: &mut Report) {
 
 /// Adds what was written to the output and to the messages.
 pub fn add_written(out: &MemSink, messages: &MemSink, report: &mut Report) {
-    report.add(b"|");
-    report.add(out.written());
-    report.add(b"|");
-    report.add(messages.written());
+    report.pair(b"|", out.written());
+    report.pair(b"|", messages.written());
 }
 
-/// Follows a line. Returns the report on its status and on the file that was made, and the writers of the output and of
-/// the messages.
-pub fn made_by(
-    rt: &(impl Abort + Alloc<A = Global>),
-    words: &[&str],
-    around: Around,
-) -> (Report, MemSink, MemSink) {
-    let mut out = sink(rt, around.room, AT_MOST);
-    let mut messages = sink(rt, around.space, AT_MOST);
-    let end = end_of(rt, words, around, &mut out, &mut messages);
+// Adds the output, or that it lies between the least and the most one.
+fn add_output(output: &[u8], row: &Row, report: &mut Report) {
+    match row.most {
+        Some(most)
+            if output.starts_with(row.output.as_bytes()) && most.as_bytes().starts_with(output) => {
+            add_bounds(row.output, most, report);
+        }
+        _ => report.add(output),
+    }
+}
+
+// Adds the least and the most output.
+fn add_bounds(least: &str, most: &str, report: &mut Report) {
+    for piece in ["between <", least, "> and <", most, ">"] {
+        report.add(piece.as_bytes());
+    }
+}
+
+// Reports what the line of a row leaves.
+fn seen(rt: &(impl Abort + Alloc<A = Global>), row: &Row) -> Result<Vec<u8>, AllocError> {
+    let mut out = sink(rt, row.room, AT_MOST);
+    let mut messages = sink(rt, row.space, AT_MOST);
+    let end = end_of(rt, row, &mut out, &mut messages);
     let mut report = Report::new(rt.alloc());
     report.print(&end.status);
     add_made(&end.world, &mut report);
-    (report, out, messages)
-}
-
-/// Reports the end of a line: the status, the file that was made, the output and the messages.
-pub fn seen_of(
-    rt: &(impl Abort + Alloc<A = Global>),
-    words: &[&str],
-    around: Around,
-) -> Result<Vec<u8>, AllocError> {
-    let (mut report, out, messages) = made_by(rt, words, around);
-    add_written(&out, &messages, &mut report);
+    report.add(b"|");
+    add_output(out.written(), row, &mut report);
+    report.pair(b"|", messages.written());
     report.text()
 }
 
-/// Returns the expected report on a line that makes no file.
-pub fn expected(
-    alloc: Global,
-    status: u8,
-    output: &str,
-    messages: &str,
-) -> Result<Vec<u8>, AllocError> {
+// Returns what it has to leave.
+fn expected(alloc: Global, row: &Row) -> Result<Vec<u8>, AllocError> {
     let mut report = Report::new(alloc);
-    report.print(&status);
-    for piece in ["|nothing is made|", output, "|", messages] {
+    report.print(&row.status);
+    let made = match row.made {
+        Some((name, bytes)) => ["|", name, ": ", bytes, "|"],
+        None => ["|", "nothing is made", "", "", "|"],
+    };
+    for piece in made {
         report.add(piece.as_bytes());
     }
+    match row.most {
+        Some(most) => add_bounds(row.output, most, &mut report),
+        None => report.add(row.output.as_bytes()),
+    }
+    report.pair(b"|", row.messages.as_bytes());
     report.text()
+}
+
+/// Compares what the line of each row leaves.
+pub fn compare(rt: &(impl Abort + Alloc<A = Global>), rows: &[Row]) {
+    for row in rows {
+        agrees(rt, row.name, expected(rt.alloc(), row), seen(rt, row));
+    }
 }

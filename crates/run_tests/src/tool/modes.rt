@@ -8,6 +8,7 @@ use crate::runs::given::sink;
 use crate::runs::shows::agrees_by;
 use m4_state::memory::MemSource;
 use m4_tool::modes::{canon, inspect};
+use part_tests::names_of_m4;
 use part_tests::report::Report;
 use std::alloc::{AllocError, Global};
 use std::process::Abort;
@@ -82,7 +83,11 @@ static REFUSED: [(&[u8], bool, u8, &str); 10] = [
 ];
 
 // A file, and the lines of the inspector.
-static LISTED: [(&[u8], &str); 4] = [
+static LISTED: [(&[u8], &str); 5] = [
+    (
+        b"V1\nF6,6\nformatformat\nF3,6\nfmtformat\n",
+        "quotes ` '\ncomments # \\0a\nplaceholder fmt format\nplaceholder format format\ncurrent 0\n",
+    ),
     (
         b"V1\nT1,1\nab\nF3,5\ncutshift\nD2,4\ntwo\n\n",
         "quotes ` '\ncomments # \\0a\ntext a 1\nbuiltin cut shift\ndiversion 2 4\ncurrent 2\n",
@@ -199,6 +204,13 @@ fn files_have_their_canonical_text(rt: HostRuntime) {
         check_row(&rt, written_as(file, text));
         check_row(&rt, written_as(text.as_bytes(), text));
     }
+}
+
+#[test]
+fn a_file_of_each_name_has_its_canonical_text(rt: HostRuntime) {
+    let text = names_of_m4::CANONICAL;
+    check_row(&rt, written_as(names_of_m4::FILE.as_bytes(), text));
+    check_row(&rt, written_as(text.as_bytes(), text));
 }
 
 #[test]

@@ -1,9 +1,13 @@
-//! The modes, where a request for memory is refused: nothing is written, and one line says why.
+//! Lines and modes, where a request for memory is refused: one line says so, and a mode writes nothing else.
 //!
 //! The devices are made first; where that is refused, the mode is passed over. `tests/refused_growths` refuses each
 //! request in turn.
 
 use m4_state::memory::{MemSink, MemSource};
+use m4_tool::follow::follow;
+use m4_tool::given::Given;
+use m4_tool::line::{Line, LineFault, read_line};
+use m4_tool::mem_world::MemWorld;
 use m4_tool::modes::{Mode, canon, inspect};
 use std::alloc::Global;
 use std::process::Abort;
@@ -93,4 +97,77 @@ fn canonical_text(rt: HostRuntime) {
 #[test]
 fn listing(rt: HostRuntime) {
     try_mode(&rt, Mode::Inspect, LISTED);
+}
+
+/// The files of a line, and what it writes.
+const FILES: [Given<'static>; 2] = [
+    Given {
+        name: b"library",
+        bytes: b"define(`greeting_of_more_than_thirty_letters',`Hello, $1, and all who read along!')dnl\n",
+        fails: false,
+    },
+    Given {
+        name: b"page",
+        bytes: b"greeting_of_more_than_thirty_letters(`world')\n",
+        fails: false,
+    },
+];
+
+const GREETING: &[u8] = b"Hello, world, and all who read along!\n";
+
+/// Follows a line; none if it could not be read, or its writers could not be made.
+fn left_by_line(alloc: Global) -> Option<Left> {
+    let line = read_line(alloc, &["m4r", "library", "page"]).ok()?;
+    let world = MemWorld::new(alloc, &FILES, b"", false);
+    let mut output = MemSink::new(alloc, ROOM, 7).ok()?;
+    let mut messages = MemSink::new(alloc, ROOM, 7).ok()?;
+    let end = follow(alloc, &line, world, &mut output, &mut messages);
+    Some(Left {
+        output,
+        messages,
+        status: end.status,
+    })
+}
+
+/// Returns whether a line wrote a beginning of its output, and the line on want of memory.
+fn line_broke_off(left: &Left) -> bool {
+    let begins = GREETING.starts_with(left.output.written());
+    left.status == 1 && begins && left.messages.written() == WRITING
+}
+
+#[test]
+fn line_that_is_followed(rt: HostRuntime) {
+    let mut broken = 0;
+    if let Some(left) = left_by_line(rt.alloc()) {
+        if !is_whole(&left, GREETING) {
+            assert!(rt;
+                line_broke_off(&left),
+                "the line is not as it is and did not break off"
+            );
+            broken = 1;
+        }
+    }
+    let _printed = println!(rt; "{broken} broke off");
+}
+
+/// Returns whether a line is that of its words.
+fn is_read(line: &Line) -> bool {
+    let files = match line.files.as_slice() {
+        [only] => only.as_str() == "page",
+        _ => false,
+    };
+    files && line.options.nesting == 2 && line.options.calls == 4294967295
+}
+
+#[test]
+fn line_that_is_read(rt: HostRuntime) {
+    let mut broken = 0;
+    match read_line(rt.alloc(), &["m4r", "-L", "2", "page"]) {
+        Ok(line) => {
+            assert!(rt; is_read(&line), "the line is not that of its words");
+        }
+        Err(LineFault::OutOfMemory) => broken = 1,
+        Err(_) => panic!(rt; "the line was refused"),
+    }
+    let _printed = println!(rt; "{broken} broke off");
 }
