@@ -259,17 +259,18 @@ fn is_made(state: &State, change: Change) -> bool {
 // Returns whether these definitions are these texts.
 fn are_texts(definitions: &[Def], texts: &[&[u8]]) -> bool {
     let mut equal = definitions.len() == texts.len();
-    let mut rest = texts;
-    for one in definitions {
-        match (one, rest.split_first()) {
-            (Def::Text(text), Some((first, after))) => {
-                equal = equal && text.as_slice() == *first;
-                rest = after;
-            }
-            _ => equal = false,
-        }
+    for (one, text) in definitions.iter().zip(texts.iter()) {
+        equal = equal && is_text(one, text);
     }
     equal
+}
+
+// Returns whether a definition is this text.
+fn is_text(definition: &Def, wanted: &[u8]) -> bool {
+    match definition {
+        Def::Text(text) => text.as_slice() == wanted,
+        _ => false,
+    }
 }
 
 // Makes a call on a state where this number is current. A refusal leaves the whole record.

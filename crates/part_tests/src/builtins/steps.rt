@@ -251,9 +251,11 @@ fn warning_of(alloc: Global, builtin: &str, row: &Warns) -> Result<Vec<u8>, Allo
     if let Some(text) = row.2 {
         describe_text(b"push ", text.as_bytes(), &mut report);
     }
-    for piece in ["m4:a.m4:1: Warning: ", before, builtin, after, "\n"] {
-        report.add(piece.as_bytes());
-    }
+    report.add(b"m4:a.m4:1: Warning: ");
+    report.add(before.as_bytes());
+    report.add(builtin.as_bytes());
+    report.add(after.as_bytes());
+    report.add(b"\n");
     report.text()
 }
 
