@@ -13,30 +13,30 @@ use std::process::Abort;
 /// Four sources, and what is written while each is read. All is read, and ends with status 0.
 struct Chain {
     name: &'static str,
-    files: [Given; 4],
-    written: [(&'static str, &'static str); 4],
+    files: &'static [Given],
+    written: &'static [(&'static str, &'static str)],
 }
 
 static CHAINS: [Chain; 2] = [
     Chain {
         name: "output alone",
-        files: [
+        files: &[
             File("define(`n',`1')dnl\n"),
             File("n pushdef(`n',`2')divert(1)n\n"),
             File("divert(0)n popdef(`n')dnl\n"),
             File("n undivert(1)end\n"),
         ],
-        written: [("", ""), ("1 ", ""), ("2 ", ""), ("1 2\nend\n", "")],
+        written: &[("", ""), ("1 ", ""), ("2 ", ""), ("1 2\nend\n", "")],
     },
     Chain {
         name: "output and messages",
-        files: [
+        files: &[
             File("define(`n',`1')errprint(`d')dnl\n"),
             File("n pushdef(`n',`2')errprint(n)divert(1)n\n"),
             File("divert(0)n popdef(`n')errprint(n)dnl\n"),
             File("n undivert(1)end`'errprint(`e')\n"),
         ],
-        written: [("", "d"), ("1 ", "2"), ("2 ", "1"), ("1 2\nend\n", "e")],
+        written: &[("", "d"), ("1 ", "2"), ("2 ", "1"), ("1 2\nend\n", "e")],
     },
 ];
 
@@ -97,7 +97,7 @@ fn seen_of(
             rt,
             options,
             &before,
-            between(&chain.files, from, *end),
+            between(chain.files, from, *end),
             block,
         );
         add_seen(&mut report, &seen);
@@ -128,7 +128,7 @@ fn expected_of(alloc: Global, chain: &Chain, ends: &[usize]) -> Result<Vec<u8>, 
     let mut report = Report::new(alloc);
     let mut from = 0;
     for end in ends {
-        let written = between(&chain.written, from, *end);
+        let written = between(chain.written, from, *end);
         add_joined(&mut report, written, true);
         add_joined(&mut report, written, false);
         report.print(&ending(DONE));

@@ -91,35 +91,48 @@ pub fn options_of(row: &Row) -> Options {
     }
 }
 
+/// Returns the text of a source.
+fn text_of<'a>(given: Given) -> &'a [u8] {
+    match given {
+        Given::File(text) => text.as_bytes(),
+        Given::Failing(text) => text.as_bytes(),
+        Given::Missing(_) => b"",
+    }
+}
+
+/// Returns whether the reader of a source fails after its text.
+fn is_failing(given: Given) -> bool {
+    match given {
+        Given::Failing(_) => true,
+        Given::File(_) | Given::Missing(_) => false,
+    }
+}
+
 /// Makes a source of this letter, whose reader returns this many bytes at a time.
-fn source(
+fn source<'a>(
     rt: &(impl Abort + Alloc<A = Global>),
     letter: u8,
     given: Given,
     block: usize,
-) -> Source<MemSource<'static>> {
-    let (text, fails) = match given {
-        Given::File(text) => (text, false),
-        Given::Failing(text) => (text, true),
-        Given::Missing(name) => {
-            return Source::Unopened {
-                name: bytes(rt, name.as_bytes()),
-            };
-        }
-    };
+) -> Source<MemSource<'a>> {
+    if let Given::Missing(name) = given {
+        return Source::Unopened {
+            name: bytes(rt, name.as_bytes()),
+        };
+    }
     Source::Opened {
         name: bytes(rt, &[letter, b'.', b'm', b'4']),
-        reader: MemSource::new(text.as_bytes(), block.max(1), fails),
+        reader: MemSource::new(text_of(given), block.max(1), is_failing(given)),
     }
 }
 
 /// Makes sources, the first of which has this letter.
-pub fn sources_of(
+pub fn sources_of<'a>(
     rt: &(impl Abort + Alloc<A = Global>),
     first: u8,
     files: &[Given],
     block: usize,
-) -> Vec<Source<MemSource<'static>>> {
+) -> Vec<Source<MemSource<'a>>> {
     let mut sources = Vec::new(rt.alloc());
     let mut letter = first;
     for one in files {
@@ -175,16 +188,16 @@ pub fn run_fresh(
 }
 
 /// Runs over files from a frozen file, whose reader may fail after these bytes.
-pub fn run_from(
+pub fn run_from<'a>(
     rt: &(impl Abort + Alloc<A = Global>),
     options: Options,
-    frozen: (&[u8], bool),
+    frozen: (&'a [u8], bool),
     files: &[Given],
     room: (usize, usize, usize),
     block: usize,
 ) -> Seen {
     let reader = MemSource::new(frozen.0, block.max(1), frozen.1);
-    let mut sources = sources_of(rt, b'b', files, block);
+    let mut sources: Vec<Source<MemSource<'a>>> = sources_of(rt, b'b', files, block);
     run_over(rt, options, Some(reader), &mut sources, room, block)
 }
 

@@ -4,7 +4,7 @@
 use super::given::{ROOM, Seen};
 use super::rows::Given::{Failing, File};
 use super::rows::{
-    FAILED_WRITE, QUIET, Row, Start, compare, frozen_of, options_of, run_from, run_row,
+    FAILED_WRITE, Given, QUIET, Row, Start, compare, frozen_of, options_of, run_from, run_row,
 };
 use super::whole_texts::{BEGIN, END, NAMES};
 use m4_engine::ending::Cause;
@@ -147,9 +147,17 @@ enum Device {
 
 /// Returns the text of a row's file.
 fn file_of(row: &Row) -> &'static str {
-    match row.files {
-        [File(text)] => *text,
-        _ => "",
+    match row.files.first() {
+        Some(one) => text_of(*one),
+        None => "",
+    }
+}
+
+/// Returns the text of a file.
+fn text_of(given: Given) -> &'static str {
+    match given {
+        File(text) => text,
+        Failing(_) | Given::Missing(_) => "",
     }
 }
 
