@@ -5,8 +5,8 @@ include install.mk
 # What is compiled and proved, and what the program's stored run reads. A page that changes proves nothing again.
 SOURCES := crates.txt $(shell find crates -name out -prune -o -type f ! -name '*.md' ! -path '*/must-fail/*' -print)
 
-.PHONY: help clean check demo test-program cases programs differences expressions chance dist deb bench real-files real-projects mutants \
-	hostile refused-memory torn wrong-bodies
+.PHONY: help clean check demo test-program cases programs differences expressions chance dist deb bench real-files \
+	real-projects mutants hostile refused-memory torn wrong-bodies
 
 # What can be made, from the comments above the targets.
 help:
