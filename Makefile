@@ -29,31 +29,31 @@ check:
 
 # The main job on a real file, with what goes in, what comes out, and whether it is as expected.
 demo: m4r
-	tests/demo
+	tests/program/demo
 
 # Runs over files, standard input and full devices, beside GNU m4 where it is installed.
 test-program: m4r
-	tests/command_line
+	tests/program/command_line
 
 # Small macro programs with what is expected of each, beside GNU m4 where it is installed.
 cases: m4r
-	tests/cases/run
+	tests/program/cases/run
 
 # Whole macro programs, a library and a page each, in one run and from the frozen library.
 programs: m4r
-	tests/programs/run
+	tests/program/programs/run
 
 # The cases of docs/DIFFERENCES.md, on m4r, and on GNU m4 where it is installed.
 differences: m4r
-	tests/differences
+	tests/pages/differences
 
 # Expressions made by chance, on m4r and GNU m4; skipped where GNU m4 is not installed.
 expressions: m4r
-	tests/expressions
+	tests/program/expressions
 
 # Macro programs made by chance, whole and from frozen files, on m4r and GNU m4; skipped where GNU m4 is not installed.
 chance: m4r
-	tests/chance
+	tests/program/chance
 
 # m4r and GNU m4 side by side, in time and memory. Give BENCH=--save to keep the numbers.
 bench: m4r
@@ -61,27 +61,27 @@ bench: m4r
 
 # The frozen files of autoconf, where they are installed.
 real-files: m4r
-	tests/real_files
+	tests/program/real_files
 
 # Programs of other packages that call m4, with m4r in its place.
 real-projects: m4r
-	tests/real_projects
+	tests/program/real_projects
 
 # Damaged frozen files, made by chance, against the second reader.
 mutants: m4r
-	tests/mutants
+	tests/program/mutants
 
 # Closed streams, many files, colliding names, and work that grows as its input does.
 hostile: m4r
-	tests/hostile
+	tests/program/hostile
 
 # Each request for memory of a run refused in turn.
 refused-memory: m4r
-	tests/refused_memory
+	tests/program/refused_memory
 
 # Frozen files that are cut while they are written, reloaded.
 torn: m4r
-	tests/torn
+	tests/program/torn
 
 # A Debian package of it, in dist/, with check-macros on the path as m4r-check-macros.
 deb: m4r

@@ -1,4 +1,4 @@
-# Completion of m4r's options and files in bash. `tests/completions` compares the options with `m4r --help`.
+# Completion of m4r's options and files in bash. `tests/program/completions` compares the options with `m4r --help`.
 
 # Offers the files that begin with a word.
 _m4r_files() {

@@ -1,4 +1,4 @@
-# Completion of m4r's options and files in fish. `tests/completions` compares the options with `m4r --help`.
+# Completion of m4r's options and files in fish. `tests/program/completions` compares the options with `m4r --help`.
 
 # All files that begin with the word at the cursor, or with what is after the sign of --canon=FILE; the frozen ones and
 # folders first.

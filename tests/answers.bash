@@ -1,5 +1,6 @@
-# What tests/cases/run and tests/programs/run share, which source this file from the folder of their programs, with the
-# name of the suite: runs of m4r, and of GNU m4 where it is installed, compared with the answers that are expected.
+# What tests/program/cases/run and tests/program/programs/run share, which source this file from the folder of their
+# programs, with the name of the suite: runs of m4r, and of GNU m4 where it is installed, compared with the answers that
+# are expected.
 #
 # Needs ./m4r, or the program that M4R names.
 suite=$1

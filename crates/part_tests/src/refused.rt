@@ -1,7 +1,8 @@
 //! The calls of each crate where a request for memory is refused: what they leave is as it was before.
 //!
 //! What a call is given is made first; where that is refused, the call is passed over, and so it is where what it left
-//! could not be compared. `tests/refused_growths` refuses each request in turn, and reads how many calls were refused.
+//! could not be compared. `tests/program/refused_growths` refuses each request in turn, and reads how many calls were
+//! refused.
 
 ghost use Rattle.std.specs.Prelude.{IfSome};
 ghost use Rattle.m4_state.specs.Definition.{IsDefinition};

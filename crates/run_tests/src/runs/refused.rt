@@ -3,7 +3,7 @@
 //! The devices and the name of a run are made first; where that is refused, the run is passed over. It then leaves what
 //! it leaves with ample memory, or breaks off: with status 1, beginnings of its output and messages, and no frozen
 //! text. A run that freezes is followed by one that starts from what it froze. Comparing needs no memory.
-//! `tests/refused_growths` refuses each request in turn, and reads how many runs broke off.
+//! `tests/program/refused_growths` refuses each request in turn, and reads how many runs broke off.
 //! Manual: "Fast loading of frozen state".
 
 use super::given::{AT_MOST, ROOM, taken};

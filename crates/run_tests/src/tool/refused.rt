@@ -1,7 +1,7 @@
 //! Lines and modes, where a request for memory is refused: one line says so, and a mode writes nothing else.
 //!
-//! The devices are made first; where that is refused, the mode is passed over. `tests/refused_growths` refuses each
-//! request in turn.
+//! The devices are made first; where that is refused, the mode is passed over. `tests/program/refused_growths` refuses
+//! each request in turn.
 
 use m4_state::memory::{MemSink, MemSource};
 use m4_tool::follow::follow;
