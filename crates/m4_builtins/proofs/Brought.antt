@@ -1,7 +1,8 @@
--- Brought: one diversion more is brought back.
+-- Brought: one diversion more is brought back, of a list of numbers or of an argument.
 use Rattle.std.proofs.Common.{◌≡◌, ℕ, ◌+◌, ◌<◌, suc, ℤ, pos, List, [], ◌∷◌, ◌++◌, length, drop, drop-cons, add-one}
-use Rattle.std.proofs.Common.{get_or, Option, Some, None, refl, sym, ap, ◌∙◌, append_assoc}
-use Rattle.std.specs.Prelude.{Vec, option_map}
+use Rattle.std.proofs.Common.{get_or, Option, Some, None, refl, sym, ap, ◌∙◌, append_assoc, append-nil}
+use Rattle.std.specs.Prelude.{Vec, option_map, option_to_list}
+use Rattle.std.specs.List.{cons_option}
 use Rattle.std.proofs.lemmas.Option.{same_Some}
 use Rattle.std.specs.declared.alloc.Global.{Global}
 use Rattle.m4_state.specs.State.{State, undiverted, issued_from, unless_empty}
@@ -37,3 +38,17 @@ module _ (numbers : List ℤ) (i : ℕ) (n : ℤ) (s t : State) (here : i < leng
       ∙ append_assoc out (issued_from s n) (issued_by (drop (i + 1) numbers) (undiverted s n))
       ∙ sym (ap (λ (ns : List ℤ). out ++ issued_by ns s) left)
       ∙ h
+
+-- an argument's diversion, or none, is brought back: the others lead to the same state, and to the same output
+pub each-next : (o : Option ℤ) (others : List ℤ) (s t : State) (out new : List ℕ) → t ≡ brought_back (option_to_list o) s → new ≡ out ++ issued_by (option_to_list o) s
+    → (brought_back others t ≡ brought_back (cons_option o others) s) × (new ++ issued_by others t ≡ out ++ issued_by (cons_option o others) s)
+each-next None others s t out new step written = (
+  ap (brought_back others) step,
+  ap (λ (x : List ℕ). x ++ issued_by others t) (written ∙ append-nil out) ∙ ap (λ (u : State). out ++ issued_by others u) step,
+)
+each-next (Some n) others s t out new step written = (
+  ap (brought_back others) step,
+  ap (λ (x : List ℕ). x ++ issued_by others t) (written ∙ ap (λ (x : List ℕ). out ++ x) (append-nil (issued_from s n)))
+      ∙ append_assoc out (issued_from s n) (issued_by others t)
+      ∙ ap (λ (u : State). out ++ (issued_from s n ++ issued_by others u)) step,
+)

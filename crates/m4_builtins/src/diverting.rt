@@ -54,12 +54,13 @@ pub(crate) fn undivert(
 {
     let alloc = effect.alloc();
     let mut messages = Vec::new(alloc);
-    let numbers = match list {
-        [] => held_numbers(alloc, state)?,
-        [..] => numbers_in(alloc, list, place, &mut messages)?,
-    };
     let mut output = Vec::new(alloc);
-    bring_back(numbers.as_slice(), state, &mut output)?;
+    if list.is_empty() {
+        let numbers = held_numbers(alloc, state)?;
+        bring_back(numbers.as_slice(), state, &mut output)?;
+    } else {
+        bring_back_each(alloc, list, place, state, &mut messages, &mut output)?;
+    }
     effect.warn(Bytes::from(messages));
     effect.set_output(Bytes::from(output));
     Ok(())
@@ -87,24 +88,29 @@ fn held_numbers(alloc: Global, state: &State) -> Result<Vec<i32>, AllocError>
     Ok(numbers)
 }
 
-/// Returns the numbers of the arguments that have one. Adds the warnings on the others.
-fn numbers_in(
+/// Undiverts the diversions whose numbers the arguments are, one after another, and appends their text to the output.
+/// Adds the warnings on arguments that are no numbers.
+fn bring_back_each(
     alloc: Global,
     list: &[Arg],
     place: &Place,
+    state: &mut State,
     messages: &mut Vec<u8>,
-) -> Result<Vec<i32>, AllocError>
-    ensures numbers { IfOk result (λ v. v.items ≡ filter_map number_of_reading (spec.readings_of list.now)) }
+    output: &mut Vec<u8>,
+) -> Result<(), BuiltinFault>
+    ensures state { OnOk result (state.new
+        ≡ spec.brought_back (filter_map number_of_reading (spec.readings_of list.now)) state.old) }
+    ensures output { OnOk result (output.new.items ≡ output.old.items
+        ++ spec.issued_by (filter_map number_of_reading (spec.readings_of list.now)) state.old) }
     ensures warns { OnOk result (messages.new.items
         ≡ messages.old.items ++ flat_map (reading_warning place.now builtins.Undivert) (spec.readings_of list.now)) }
 {
-    let mut numbers = Vec::new(alloc);
     for arg in list {
         if let Some(number) = number_in(alloc, text_of(arg), place, Builtin::Undivert, messages)? {
-            numbers.push(number)?;
+            bring_back(&[number], state, output)?;
         }
     }
-    Ok(numbers)
+    Ok(())
 }
 
 /// Undiverts diversions, one after another, and appends their text to the output.

@@ -339,7 +339,7 @@ impl EffectBuffer {
     pub(crate) fn set_output(&mut self, output: Bytes)
         ensures { self.new ≡ record self.old { output = output } }
     {
-        self.has_more = true;
+        self.has_more |= !output.as_slice().is_empty();
         self.output = output;
     }
 

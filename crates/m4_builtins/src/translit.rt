@@ -12,8 +12,11 @@ use crate::args::{Arg, text_at};
 use crate::effect_buffer::EffectBuffer;
 use std::alloc::{AllocError, Global};
 
+/// How many bytes there are.
+const BYTES: usize = 256;
+
 /// The replacement of each byte, by its number; none if it is deleted.
-type Changes = [Option<u8>; 256];
+type Changes = [Option<u8>; BYTES];
 
 /// Expands to the first argument with the bytes of the second one replaced by those of the third. Takes
 /// time in proportion to the text and to the expanded ranges. Manual: "Translating
@@ -25,16 +28,17 @@ pub(crate) fn translit(effect: &mut EffectBuffer, list: &[Arg]) -> Result<(), Al
     let alloc = effect.alloc();
     let from = ranges(alloc, text_at(list, 1))?;
     let to = ranges(alloc, text_at(list, 2))?;
-    let text = translated(alloc, text_at(list, 0), from.as_slice(), to.as_slice())?;
-    effect.give(text);
+    let mut out = effect.buffer();
+    translate_onto(&mut out, text_at(list, 0), from.as_slice(), to.as_slice())?;
+    effect.give(out);
     Ok(())
 }
 
-/// Returns a text with its ranges expanded.
+/// Returns a text with its ranges expanded. Most have no more bytes than there are, so that the memory is asked for once.
 fn ranges(alloc: Global, text: &[u8]) -> Result<Vec<u8>, AllocError>
     ensures { IfOk result (λ v. v.items ≡ spec.ranges text.now) }
 {
-    let mut out = Vec::new(alloc);
+    let mut out = Vec::with_capacity(alloc, text.len().max(BYTES))?;
     let mut before = None;
     let mut rest = text;
     while let [byte, others @ ..] = rest {
@@ -107,23 +111,23 @@ fn changes_of(from: &[u8], to: &[u8]) -> Changes
 fn no_changes() -> Changes
     ensures { (b : ℕ) → b < 256 → get_or result b None ≡ Some b }
 {
-    let mut changes = [None; 256];
-    for byte in 0..256 {
+    let mut changes = [None; BYTES];
+    for byte in 0..BYTES {
         changes[byte] = Some(byte as u8);
     }
     changes
 }
 
-/// Returns a text with the bytes of one text replaced by those of another.
-fn translated(alloc: Global, text: &[u8], from: &[u8], to: &[u8]) -> Result<Vec<u8>, AllocError>
-    ensures { IfOk result (λ v. v.items ≡ spec.translated text.now from.now to.now) }
+/// Appends a text with the bytes of one text replaced by those of another.
+fn translate_onto(out: &mut Vec<u8>, text: &[u8], from: &[u8], to: &[u8]) -> Result<(), AllocError>
+    ensures { OnOk result (out.new.items ≡ out.old.items ++ spec.translated text.now from.now to.now) }
 {
     let changes = changes_of(from, to);
-    let mut out = Vec::with_capacity(alloc, text.len())?;
+    out.reserve(text.len())?;
     for byte in text {
         if let Some(new) = changes[usize::from(*byte)] {
             out.push(new)?;
         }
     }
-    Ok(out)
+    Ok(())
 }

@@ -1,6 +1,6 @@
 use Rattle.std.proofs.Common.{arith}
 use Rattle.std.proofs.lemmas.Grind.{common_steps}
-use Rattle.m4_builtins.proofs.translit.translated.Goals as goal
+use Rattle.m4_builtins.proofs.translit.translate_onto.Goals as goal
 
 pub loop-byte-preserved : goal.loop-byte-preserved
 loop-byte-preserved c = grind (arith, common_steps)
