@@ -34,7 +34,7 @@ pub(crate) fn translit(effect: &mut EffectBuffer, list: &[Arg]) -> Result<(), Al
     Ok(())
 }
 
-/// Returns a text with its ranges expanded. Most have no more bytes than there are, so that the memory is asked for once.
+/// Returns a text with its ranges expanded. Most come to at most 256 bytes, which take one request for memory.
 fn ranges(alloc: Global, text: &[u8]) -> Result<Vec<u8>, AllocError>
     ensures { IfOk result (λ v. v.items ≡ spec.ranges text.now) }
 {
