@@ -5,6 +5,7 @@ use Rattle.std.specs.Prelude.{codes}
 use Rattle.std.specs.Fmt.{digits}
 use Rattle.m4_frozen.specs.ReaderSteps as steps
 use Rattle.m4_frozen.specs.declared.fault.FrozenKind.TheVariants as kinds
+use Rattle.m4_input.specs.Pending.{line_after}
 use Rattle.m4_engine.specs.declared.ending.Cause.TheVariants as causes
 use Rattle.m4_engine.specs.Expansion.{Ends}
 use Rattle.m4_engine.specs.File.{Opened, Unopened}
@@ -49,3 +50,10 @@ saved_before_an_exit = refl
 refused_file : run usual (Some (frozen_file (codes "V1\nD0,3\nhi\n\nX\n"))) (Opened (codes "a.m4") (codes "x") ∷ []) ≡ record (done [] [] 0) { reason = Ends (causes.Frozen (record { kind = kinds.UnknownDirective; offset = 12 })); status = 1 }
 unfolding steps.file_at steps.version_at steps.directives_at steps.directive_at steps.length_at steps.string_at
 refused_file = refl
+
+-- a line of more than 32 bits is exact, and the greatest one has 64
+line_of_33_bits : line_after (Some []) 4294967296 ≡ 4294967297
+line_of_33_bits = refl
+
+greatest_line : line_after (Some []) 18446744073709551615 ≡ 18446744073709551615
+greatest_line = refl

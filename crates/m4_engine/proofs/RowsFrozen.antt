@@ -4,6 +4,7 @@ use Rattle.std.specs.Prelude.{codes}
 use Rattle.std.specs.Fmt.{digits}
 use Rattle.std.specs.Int.{int_wrap}
 use Rattle.m4_state.specs.Device.{Script}
+use Rattle.m4_frozen.specs.FaultAt.{as_offset}
 use Rattle.m4_frozen.specs.ReaderSteps as steps
 use Rattle.m4_frozen.specs.declared.fault.FrozenKind.TheVariants as kinds
 use Rattle.m4_engine.specs.declared.ending.Cause.TheVariants as causes
@@ -146,3 +147,10 @@ greeting_reloaded = refl
 diversions_are_frozen : run freezing (from (codes "V1\nD2,4\ntwo\n\n")) (Opened (codes "b.m4") (codes "more\n") ∷ []) ≡ record (done [] [] 0) { frozen = Some (codes "# m4 frozen state\nV1\nD2,9\ntwo\nmore\n\n# End of frozen state file\n") }
 unfolding digits steps.file_at steps.version_at steps.directives_at steps.directive_at steps.length_at steps.string_at
 diversions_are_frozen = refl
+
+-- an offset of more than 32 bits is exact, and the greatest one has 64
+offset_of_33_bits : as_offset 4294967297 ≡ 4294967297
+offset_of_33_bits = refl
+
+greatest_offset : as_offset 18446744073709551616 ≡ 18446744073709551615
+greatest_offset = refl
