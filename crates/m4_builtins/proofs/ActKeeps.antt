@@ -189,7 +189,8 @@ module _ (p : Place) where
   few_is Translit (a ∷ []) = tt
   few_is b list = tt
 
-  each_is : (change : State → List ℕ → State) → ((s : State) (name : List ℕ) → IsState s → IsState (change s name)) → (list : List Arg) (s : State) → IsState s → IsState (for_each change list s)
+  each_is : (change : State → List ℕ → State) → ((s : State) (name : List ℕ) → IsState s → IsState (change s name))
+      → (list : List Arg) (s : State) → IsState s → IsState (for_each change list s)
   each_is change keeps [] s h = h
   each_is change keeps (a ∷ list) s h = each_is change keeps list (change s (text_of_arg a)) (keeps s (text_of_arg a) h)
 
@@ -265,8 +266,10 @@ module _ (p : Place) where
   acts : (list : List Arg) (d : Def) (name : List ℕ) (s : State) → IsState s → AllByRecursion IsArg list → IsActed (act d name list p s)
   acts list d name s h v = with_is (goes_on list p s) (goes_is list s h v) d name list s h v
 
-pub act_keeps : (d : Def) (name : List ℕ) (list : List Arg) (p : Place) (s : State) → IsState s → AllByRecursion IsArg list → IsState (act d name list p s).state
+pub act_keeps : (d : Def) (name : List ℕ) (list : List Arg) (p : Place) (s : State) → IsState s
+    → AllByRecursion IsArg list → IsState (act d name list p s).state
 act_keeps d name list p s h v = (acts p list d name s h v).state
 
-pub act_pushes : (d : Def) (name : List ℕ) (list : List Arg) (p : Place) (s : State) → IsState s → AllByRecursion IsArg list → IsPushed ((act d name list p s).effect).push
+pub act_pushes : (d : Def) (name : List ℕ) (list : List Arg) (p : Place) (s : State) → IsState s
+    → AllByRecursion IsArg list → IsPushed ((act d name list p s).effect).push
 act_pushes d name list p s h v = (acts p list d name s h v).push

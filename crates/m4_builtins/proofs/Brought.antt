@@ -30,7 +30,8 @@ module _ (numbers : List ℤ) (i : ℕ) (n : ℤ) (s t : State) (here : i < leng
       ap (brought_back (drop (i + 1) numbers)) step ∙ sym (ap (λ (ns : List ℤ). brought_back ns s) left) ∙ h
 
   -- and to the same output
-  pub output-next : (r : Option (Vec ℕ Global)) (out new all : List ℕ) → option_map (λ t. t.items) r ≡ unless_empty (issued_from s n) → new ≡ out ++ handed_out r
+  pub output-next : (r : Option (Vec ℕ Global)) (out new all : List ℕ)
+      → option_map (λ t. t.items) r ≡ unless_empty (issued_from s n) → new ≡ out ++ handed_out r
       → out ++ issued_by (drop i numbers) s ≡ all → new ++ issued_by (drop (i + 1) numbers) t ≡ all
   output-next r out new all given written h =
       ap (λ (x : List ℕ). x ++ issued_by (drop (i + 1) numbers) t) (written ∙ ap (λ (x : List ℕ). out ++ x) (handed_out-is r (issued_from s n) given))
@@ -40,7 +41,8 @@ module _ (numbers : List ℤ) (i : ℕ) (n : ℤ) (s t : State) (here : i < leng
       ∙ h
 
 -- an argument's diversion, or none, is brought back: the others lead to the same state, and to the same output
-pub each-next : (o : Option ℤ) (others : List ℤ) (s t : State) (out new : List ℕ) → t ≡ brought_back (option_to_list o) s → new ≡ out ++ issued_by (option_to_list o) s
+pub each-next : (o : Option ℤ) (others : List ℤ) (s t : State) (out new : List ℕ)
+    → t ≡ brought_back (option_to_list o) s → new ≡ out ++ issued_by (option_to_list o) s
     → (brought_back others t ≡ brought_back (cons_option o others) s) × (new ++ issued_by others t ≡ out ++ issued_by (cons_option o others) s)
 each-next None others s t out new step written = (
   ap (brought_back others) step,

@@ -81,7 +81,8 @@ bare = record {
 
 abbrev pub named : State
 named = record {
-  table = (codes "a", defs.Text (codes "1") ∷ []) ∷ (codes "b", defs.Text (codes "1") ∷ defs.Text (codes "2") ∷ []) ∷ (codes "cut", defs.Builtin Shift ∷ []) ∷ (codes "old", defs.Placeholder (codes "regexp") ∷ []) ∷ [];
+  table = (codes "a", defs.Text (codes "1") ∷ []) ∷ (codes "b", defs.Text (codes "1") ∷ defs.Text (codes "2") ∷ [])
+      ∷ (codes "cut", defs.Builtin Shift ∷ []) ∷ (codes "old", defs.Placeholder (codes "regexp") ∷ []) ∷ [];
   quotes = default_quotes;
   comments = default_comments;
   diversions = [];
@@ -135,7 +136,8 @@ discarding = record {
 
 abbrev pub indirect : State
 indirect = record {
-  table = (codes "a b", defs.Text (codes "<$0:$1>") ∷ []) ∷ (codes "define", defs.Builtin Define ∷ []) ∷ (codes "i", defs.Builtin Indir ∷ []) ∷ (codes "j", defs.Builtin IndirBuiltin ∷ []) ∷ [];
+  table = (codes "a b", defs.Text (codes "<$0:$1>") ∷ []) ∷ (codes "define", defs.Builtin Define ∷ [])
+      ∷ (codes "i", defs.Builtin Indir ∷ []) ∷ (codes "j", defs.Builtin IndirBuiltin ∷ []) ∷ [];
   quotes = default_quotes;
   comments = default_comments;
   diversions = [];
@@ -145,7 +147,9 @@ indirect = record {
 -- pushdef adds to a name's definitions
 pushdef_adds_to_a_names_definitions : seen (act (defs.Builtin Pushdef) [] (args.Text (codes "a") ∷ args.Text (codes "2") ∷ []) here named)
     ≡ still (record {
-      table = (codes "a", defs.Text (codes "1") ∷ defs.Text (codes "2") ∷ []) ∷ (codes "b", defs.Text (codes "1") ∷ defs.Text (codes "2") ∷ []) ∷ (codes "cut", defs.Builtin Shift ∷ []) ∷ (codes "old", defs.Placeholder (codes "regexp") ∷ []) ∷ [];
+      table = (codes "a", defs.Text (codes "1") ∷ defs.Text (codes "2") ∷ [])
+          ∷ (codes "b", defs.Text (codes "1") ∷ defs.Text (codes "2") ∷ []) ∷ (codes "cut", defs.Builtin Shift ∷ [])
+          ∷ (codes "old", defs.Placeholder (codes "regexp") ∷ []) ∷ [];
       quotes = default_quotes;
       comments = default_comments;
       diversions = [];
@@ -157,7 +161,9 @@ pushdef_adds_to_a_names_definitions = refl
 -- pushdef of a new name goes to its place
 pushdef_of_a_new_name_goes_to_its_place : seen (act (defs.Builtin Pushdef) [] (args.Text (codes "bb") ∷ args.Text (codes "x") ∷ []) here named)
     ≡ still (record {
-      table = (codes "a", defs.Text (codes "1") ∷ []) ∷ (codes "b", defs.Text (codes "1") ∷ defs.Text (codes "2") ∷ []) ∷ (codes "bb", defs.Text (codes "x") ∷ []) ∷ (codes "cut", defs.Builtin Shift ∷ []) ∷ (codes "old", defs.Placeholder (codes "regexp") ∷ []) ∷ [];
+      table = (codes "a", defs.Text (codes "1") ∷ []) ∷ (codes "b", defs.Text (codes "1") ∷ defs.Text (codes "2") ∷ [])
+          ∷ (codes "bb", defs.Text (codes "x") ∷ []) ∷ (codes "cut", defs.Builtin Shift ∷ [])
+          ∷ (codes "old", defs.Placeholder (codes "regexp") ∷ []) ∷ [];
       quotes = default_quotes;
       comments = default_comments;
       diversions = [];
@@ -181,7 +187,9 @@ pushdef_without_a_text = refl
 -- pushdef of a builtin
 pushdef_of_a_builtin : seen (act (defs.Builtin Pushdef) [] (args.Text (codes "a") ∷ (args.Definition (defs.Builtin Shift)) ∷ []) here named)
     ≡ still (record {
-      table = (codes "a", defs.Text (codes "1") ∷ defs.Builtin Shift ∷ []) ∷ (codes "b", defs.Text (codes "1") ∷ defs.Text (codes "2") ∷ []) ∷ (codes "cut", defs.Builtin Shift ∷ []) ∷ (codes "old", defs.Placeholder (codes "regexp") ∷ []) ∷ [];
+      table = (codes "a", defs.Text (codes "1") ∷ defs.Builtin Shift ∷ [])
+          ∷ (codes "b", defs.Text (codes "1") ∷ defs.Text (codes "2") ∷ []) ∷ (codes "cut", defs.Builtin Shift ∷ [])
+          ∷ (codes "old", defs.Placeholder (codes "regexp") ∷ []) ∷ [];
       quotes = default_quotes;
       comments = default_comments;
       diversions = [];
@@ -211,7 +219,8 @@ pushdef_with_one_argument_too_many = refl
 -- define keeps what lies below the top
 define_keeps_what_lies_below_the_top : seen (act (defs.Builtin Define) [] (args.Text (codes "b") ∷ args.Text (codes "3") ∷ []) here named)
     ≡ still (record {
-      table = (codes "a", defs.Text (codes "1") ∷ []) ∷ (codes "b", defs.Text (codes "1") ∷ defs.Text (codes "3") ∷ []) ∷ (codes "cut", defs.Builtin Shift ∷ []) ∷ (codes "old", defs.Placeholder (codes "regexp") ∷ []) ∷ [];
+      table = (codes "a", defs.Text (codes "1") ∷ []) ∷ (codes "b", defs.Text (codes "1") ∷ defs.Text (codes "3") ∷ [])
+          ∷ (codes "cut", defs.Builtin Shift ∷ []) ∷ (codes "old", defs.Placeholder (codes "regexp") ∷ []) ∷ [];
       quotes = default_quotes;
       comments = default_comments;
       diversions = [];
@@ -227,15 +236,20 @@ unfolding digits
 define_without_arguments = refl
 
 -- define cannot name a builtin, and has one argument too many
-define_cannot_name_a_builtin : seen (act (defs.Builtin Define) [] ((args.Definition (defs.Builtin Dnl)) ∷ args.Text (codes "x") ∷ args.Text (codes "y") ∷ []) wrapped bare)
-    ≡ record (still bare) { messages = codes "m4: Warning: excess arguments to builtin `define' ignored\nm4: Warning: invalid macro name ignored in builtin `define'\n" }
+define_cannot_name_a_builtin : seen (act (defs.Builtin Define) []
+    ((args.Definition (defs.Builtin Dnl)) ∷ args.Text (codes "x") ∷ args.Text (codes "y") ∷ []) wrapped bare)
+    ≡ record (still bare) {
+      messages = codes
+          "m4: Warning: excess arguments to builtin `define' ignored\nm4: Warning: invalid macro name ignored in builtin `define'\n";
+    }
 unfolding digits
 define_cannot_name_a_builtin = refl
 
 -- popdef takes the top one
 popdef_takes_the_top_one : seen (act (defs.Builtin Popdef) [] (args.Text (codes "b") ∷ []) here named)
     ≡ still (record {
-      table = (codes "a", defs.Text (codes "1") ∷ []) ∷ (codes "b", defs.Text (codes "1") ∷ []) ∷ (codes "cut", defs.Builtin Shift ∷ []) ∷ (codes "old", defs.Placeholder (codes "regexp") ∷ []) ∷ [];
+      table = (codes "a", defs.Text (codes "1") ∷ []) ∷ (codes "b", defs.Text (codes "1") ∷ [])
+          ∷ (codes "cut", defs.Builtin Shift ∷ []) ∷ (codes "old", defs.Placeholder (codes "regexp") ∷ []) ∷ [];
       quotes = default_quotes;
       comments = default_comments;
       diversions = [];
@@ -247,7 +261,8 @@ popdef_takes_the_top_one = refl
 -- popdef of the last one takes the name away
 popdef_of_the_last_one_takes_the_name_away : seen (act (defs.Builtin Popdef) [] (args.Text (codes "a") ∷ []) here named)
     ≡ still (record {
-      table = (codes "b", defs.Text (codes "1") ∷ defs.Text (codes "2") ∷ []) ∷ (codes "cut", defs.Builtin Shift ∷ []) ∷ (codes "old", defs.Placeholder (codes "regexp") ∷ []) ∷ [];
+      table = (codes "b", defs.Text (codes "1") ∷ defs.Text (codes "2") ∷ []) ∷ (codes "cut", defs.Builtin Shift ∷ [])
+          ∷ (codes "old", defs.Placeholder (codes "regexp") ∷ []) ∷ [];
       quotes = default_quotes;
       comments = default_comments;
       diversions = [];
@@ -257,7 +272,9 @@ unfolding digits
 popdef_of_the_last_one_takes_the_name_away = refl
 
 -- popdef of several, an unknown one and one twice
-popdef_of_several_an_unknown_one_and_one_twice : seen (act (defs.Builtin Popdef) [] (args.Text (codes "z") ∷ args.Text (codes "b") ∷ args.Text (codes "b") ∷ args.Text (codes "cut") ∷ []) here named)
+popdef_of_several_an_unknown_one_and_one_twice : seen
+    (act (defs.Builtin Popdef) []
+    (args.Text (codes "z") ∷ args.Text (codes "b") ∷ args.Text (codes "b") ∷ args.Text (codes "cut") ∷ []) here named)
     ≡ still (record {
       table = (codes "a", defs.Text (codes "1") ∷ []) ∷ (codes "old", defs.Placeholder (codes "regexp") ∷ []) ∷ [];
       quotes = default_quotes;
@@ -311,8 +328,13 @@ unfolding digits
 defn_of_an_unknown_name = refl
 
 -- defn of several gives their texts and drops the builtins
-defn_of_several_gives_their_texts_and_drops_the_builtins : seen (act (defs.Builtin Defn) [] (args.Text (codes "a") ∷ args.Text (codes "cut") ∷ args.Text (codes "b") ∷ args.Text (codes "old") ∷ args.Text (codes "z") ∷ []) here named)
-    ≡ record (still named) { text = codes "`1'`2'"; messages = codes "m4:a.m4:1: Warning: builtin dropped from text\nm4:a.m4:1: Warning: builtin dropped from text\n" }
+defn_of_several_gives_their_texts_and_drops_the_builtins : seen
+    (act (defs.Builtin Defn) [] (args.Text (codes "a") ∷ args.Text (codes "cut") ∷ args.Text (codes "b")
+    ∷ args.Text (codes "old") ∷ args.Text (codes "z") ∷ []) here named)
+    ≡ record (still named) {
+      text = codes "`1'`2'";
+      messages = codes "m4:a.m4:1: Warning: builtin dropped from text\nm4:a.m4:1: Warning: builtin dropped from text\n";
+    }
 unfolding digits
 defn_of_several_gives_their_texts_and_drops_the_builtins = refl
 
@@ -341,8 +363,15 @@ unfolding digits
 defn_with_quotes_disabled = refl
 
 -- dumpdef of several, one unknown, one twice
-dumpdef_of_several_one_unknown_one_twice : seen (act (defs.Builtin Dumpdef) [] (args.Text (codes "b") ∷ args.Text (codes "z") ∷ args.Text (codes "a") ∷ args.Text (codes "y") ∷ args.Text (codes "b") ∷ args.Text (codes "cut") ∷ args.Text (codes "old") ∷ []) here named)
-    ≡ record (still named) { messages = codes "m4:a.m4:1: Warning: undefined macro `z'\nm4:a.m4:1: Warning: undefined macro `y'\na:\t`1'\nb:\t`2'\nb:\t`2'\ncut:\t<shift>\nold:\t<regexp>\n" }
+dumpdef_of_several_one_unknown_one_twice : seen
+    (act (defs.Builtin Dumpdef) []
+    (args.Text (codes "b") ∷ args.Text (codes "z") ∷ args.Text (codes "a") ∷ args.Text (codes "y")
+    ∷ args.Text (codes "b") ∷ args.Text (codes "cut") ∷ args.Text (codes "old") ∷ []) here named)
+    ≡ record (still named) {
+      messages =
+          codes
+          "m4:a.m4:1: Warning: undefined macro `z'\nm4:a.m4:1: Warning: undefined macro `y'\na:\t`1'\nb:\t`2'\nb:\t`2'\ncut:\t<shift>\nold:\t<regexp>\n";
+    }
 unfolding digits
 dumpdef_of_several_one_unknown_one_twice = refl
 
@@ -373,7 +402,8 @@ indir_of_a_text_the_name_is_that_of_the_inner_call = refl
 -- indir of define
 indir_of_define : seen (act (defs.Builtin Indir) [] (args.Text (codes "define") ∷ args.Text (codes "a b") ∷ args.Text (codes "$1") ∷ []) here indirect)
     ≡ still (record {
-      table = (codes "a b", defs.Text (codes "$1") ∷ []) ∷ (codes "define", defs.Builtin Define ∷ []) ∷ (codes "i", defs.Builtin Indir ∷ []) ∷ (codes "j", defs.Builtin IndirBuiltin ∷ []) ∷ [];
+      table = (codes "a b", defs.Text (codes "$1") ∷ []) ∷ (codes "define", defs.Builtin Define ∷ [])
+          ∷ (codes "i", defs.Builtin Indir ∷ []) ∷ (codes "j", defs.Builtin IndirBuiltin ∷ []) ∷ [];
       quotes = default_quotes;
       comments = default_comments;
       diversions = [];
@@ -407,7 +437,9 @@ unfolding digits
 indir_of_define_without_arguments_the_inner_call_lacks_one = refl
 
 -- indir of indir of builtin of indir of a text
-indir_of_indir_of_builtin_of_indir_of_a_text : seen (act (defs.Builtin Indir) [] (args.Text (codes "i") ∷ args.Text (codes "j") ∷ args.Text (codes "indir") ∷ args.Text (codes "a b") ∷ args.Text (codes "x") ∷ args.Text (codes "y") ∷ []) here indirect)
+indir_of_indir_of_builtin_of_indir_of_a_text : seen
+    (act (defs.Builtin Indir) [] (args.Text (codes "i") ∷ args.Text (codes "j") ∷ args.Text (codes "indir")
+    ∷ args.Text (codes "a b") ∷ args.Text (codes "x") ∷ args.Text (codes "y") ∷ []) here indirect)
     ≡ record (still indirect) { text = codes "<a b:x>" }
 unfolding digits
 indir_of_indir_of_builtin_of_indir_of_a_text = refl
@@ -425,7 +457,9 @@ unfolding digits
 indir_of_a_placeholder = refl
 
 -- builtin by its own name, though no macro has it
-builtin_by_its_own_name_though_no_macro_has_it : seen (act (defs.Builtin IndirBuiltin) [] (args.Text (codes "shift") ∷ args.Text (codes "p") ∷ args.Text (codes "q") ∷ []) here bare)
+builtin_by_its_own_name_though_no_macro_has_it : seen
+    (act (defs.Builtin IndirBuiltin) [] (args.Text (codes "shift") ∷ args.Text (codes "p") ∷ args.Text (codes "q") ∷ [])
+    here bare)
     ≡ record (still bare) { text = codes "`q'" }
 unfolding digits
 builtin_by_its_own_name_though_no_macro_has_it = refl
@@ -455,7 +489,9 @@ unfolding digits
 builtin_without_arguments = refl
 
 -- builtin of define with one argument too many
-builtin_of_define_with_one_argument_too_many : seen (act (defs.Builtin IndirBuiltin) [] (args.Text (codes "define") ∷ args.Text (codes "x") ∷ args.Text (codes "y") ∷ args.Text (codes "z") ∷ []) here bare)
+builtin_of_define_with_one_argument_too_many : seen
+    (act (defs.Builtin IndirBuiltin) []
+    (args.Text (codes "define") ∷ args.Text (codes "x") ∷ args.Text (codes "y") ∷ args.Text (codes "z") ∷ []) here bare)
     ≡ record (still (record {
       table = (codes "x", defs.Text (codes "y") ∷ []) ∷ [];
       quotes = default_quotes;
@@ -473,7 +509,8 @@ unfolding digits
 a_placeholder_with_arguments = refl
 
 -- ifdef of a name that has a definition
-ifdef_of_a_name_that_has_a_definition : seen (act (defs.Builtin Ifdef) [] (args.Text (codes "a") ∷ args.Text (codes "y") ∷ args.Text (codes "n") ∷ []) here named)
+ifdef_of_a_name_that_has_a_definition : seen
+    (act (defs.Builtin Ifdef) [] (args.Text (codes "a") ∷ args.Text (codes "y") ∷ args.Text (codes "n") ∷ []) here named)
     ≡ record (still named) { text = codes "y" }
 unfolding digits
 ifdef_of_a_name_that_has_a_definition = refl
@@ -497,7 +534,8 @@ unfolding digits
 ifdef_with_one_argument = refl
 
 -- ifdef with four
-ifdef_with_four : seen (act (defs.Builtin Ifdef) [] (args.Text (codes "a") ∷ args.Text (codes "y") ∷ args.Text (codes "n") ∷ args.Text (codes "m") ∷ []) here named)
+ifdef_with_four : seen (act (defs.Builtin Ifdef) []
+    (args.Text (codes "a") ∷ args.Text (codes "y") ∷ args.Text (codes "n") ∷ args.Text (codes "m") ∷ []) here named)
     ≡ record (still named) { text = codes "y"; messages = codes "m4:a.m4:1: Warning: excess arguments to builtin `ifdef' ignored\n" }
 unfolding digits
 ifdef_with_four = refl
@@ -527,50 +565,68 @@ unfolding digits
 ifelse_of_texts_that_differ = refl
 
 -- ifelse with another result
-ifelse_with_another_result : seen (act (defs.Builtin Ifelse) [] (args.Text (codes "a") ∷ args.Text (codes "b") ∷ args.Text (codes "1") ∷ args.Text (codes "2") ∷ []) here bare)
+ifelse_with_another_result : seen (act (defs.Builtin Ifelse) []
+    (args.Text (codes "a") ∷ args.Text (codes "b") ∷ args.Text (codes "1") ∷ args.Text (codes "2") ∷ []) here bare)
     ≡ record (still bare) { text = codes "2" }
 unfolding digits
 ifelse_with_another_result = refl
 
 -- ifelse with one argument too many
-ifelse_with_one_argument_too_many : seen (act (defs.Builtin Ifelse) [] (args.Text (codes "a") ∷ args.Text (codes "b") ∷ args.Text (codes "c") ∷ args.Text (codes "d") ∷ args.Text (codes "e") ∷ []) here bare)
+ifelse_with_one_argument_too_many : seen
+    (act (defs.Builtin Ifelse) []
+    (args.Text (codes "a") ∷ args.Text (codes "b") ∷ args.Text (codes "c") ∷ args.Text (codes "d")
+    ∷ args.Text (codes "e") ∷ []) here bare)
     ≡ record (still bare) { text = codes "d"; messages = codes "m4:a.m4:1: Warning: excess arguments to builtin `ifelse' ignored\n" }
 unfolding digits
 ifelse_with_one_argument_too_many = refl
 
 -- ifelse with one too many where the first pair is equal
-ifelse_with_one_too_many_where_the_first_pair_is_equal : seen (act (defs.Builtin Ifelse) [] (args.Text (codes "a") ∷ args.Text (codes "a") ∷ args.Text (codes "c") ∷ args.Text (codes "d") ∷ args.Text (codes "e") ∷ []) here bare)
+ifelse_with_one_too_many_where_the_first_pair_is_equal : seen
+    (act (defs.Builtin Ifelse) []
+    (args.Text (codes "a") ∷ args.Text (codes "a") ∷ args.Text (codes "c") ∷ args.Text (codes "d")
+    ∷ args.Text (codes "e") ∷ []) here bare)
     ≡ record (still bare) { text = codes "c"; messages = codes "m4:a.m4:1: Warning: excess arguments to builtin `ifelse' ignored\n" }
 unfolding digits
 ifelse_with_one_too_many_where_the_first_pair_is_equal = refl
 
 -- ifelse of two pairs
-ifelse_of_two_pairs : seen (act (defs.Builtin Ifelse) [] (args.Text (codes "a") ∷ args.Text (codes "b") ∷ args.Text (codes "1") ∷ args.Text (codes "c") ∷ args.Text (codes "c") ∷ args.Text (codes "2") ∷ args.Text (codes "3") ∷ []) here bare)
+ifelse_of_two_pairs : seen (act (defs.Builtin Ifelse) []
+    (args.Text (codes "a") ∷ args.Text (codes "b") ∷ args.Text (codes "1") ∷ args.Text (codes "c")
+    ∷ args.Text (codes "c") ∷ args.Text (codes "2") ∷ args.Text (codes "3") ∷ []) here bare)
     ≡ record (still bare) { text = codes "2" }
 unfolding digits
 ifelse_of_two_pairs = refl
 
 -- ifelse of two pairs that differ, without another result
-ifelse_of_two_pairs_that_differ_without_another_result : seen (act (defs.Builtin Ifelse) [] (args.Text (codes "a") ∷ args.Text (codes "b") ∷ args.Text (codes "1") ∷ args.Text (codes "c") ∷ args.Text (codes "d") ∷ args.Text (codes "2") ∷ []) here bare)
+ifelse_of_two_pairs_that_differ_without_another_result : seen
+    (act (defs.Builtin Ifelse) []
+    (args.Text (codes "a") ∷ args.Text (codes "b") ∷ args.Text (codes "1") ∷ args.Text (codes "c")
+    ∷ args.Text (codes "d") ∷ args.Text (codes "2") ∷ []) here bare)
     ≡ still bare
 unfolding digits
 ifelse_of_two_pairs_that_differ_without_another_result = refl
 
 -- ifelse of eight
-ifelse_of_eight : seen (act (defs.Builtin Ifelse) [] (args.Text (codes "a") ∷ args.Text (codes "b") ∷ args.Text (codes "1") ∷ args.Text (codes "c") ∷ args.Text (codes "d") ∷ args.Text (codes "2") ∷ args.Text (codes "3") ∷ args.Text (codes "4") ∷ []) here bare)
+ifelse_of_eight : seen (act (defs.Builtin Ifelse) []
+    (args.Text (codes "a") ∷ args.Text (codes "b") ∷ args.Text (codes "1") ∷ args.Text (codes "c")
+    ∷ args.Text (codes "d") ∷ args.Text (codes "2") ∷ args.Text (codes "3") ∷ args.Text (codes "4") ∷ []) here bare)
     ≡ record (still bare) { text = codes "3"; messages = codes "m4:a.m4:1: Warning: excess arguments to builtin `ifelse' ignored\n" }
 unfolding digits
 ifelse_of_eight = refl
 
 -- ifelse of ten
-ifelse_of_ten : seen (act (defs.Builtin Ifelse) [] (args.Text (codes "a") ∷ args.Text (codes "b") ∷ args.Text (codes "1") ∷ args.Text (codes "c") ∷ args.Text (codes "d") ∷ args.Text (codes "2") ∷
+ifelse_of_ten : seen (act (defs.Builtin Ifelse) []
+    (args.Text (codes "a") ∷ args.Text (codes "b") ∷ args.Text (codes "1") ∷ args.Text (codes "c")
+    ∷ args.Text (codes "d") ∷ args.Text (codes "2") ∷
     args.Text (codes "e") ∷ args.Text (codes "e") ∷ args.Text (codes "3") ∷ args.Text (codes "4") ∷ []) here bare)
     ≡ record (still bare) { text = codes "3" }
 unfolding digits
 ifelse_of_ten = refl
 
 -- shift quotes each argument but the first
-shift_quotes_each_argument_but_the_first : seen (act (defs.Builtin Shift) [] (args.Text (codes "a") ∷ args.Text (codes "b") ∷ args.Text [] ∷ args.Text (codes "c") ∷ []) here bare)
+shift_quotes_each_argument_but_the_first : seen
+    (act (defs.Builtin Shift) [] (args.Text (codes "a") ∷ args.Text (codes "b") ∷ args.Text [] ∷ args.Text (codes "c")
+    ∷ []) here bare)
     ≡ record (still bare) { text = codes "`b',`',`c'" }
 unfolding digits
 shift_quotes_each_argument_but_the_first = refl
@@ -594,9 +650,12 @@ unfolding digits
 a_warning_at_a_place = refl
 
 -- indir hands definitions through
-indir_hands_definitions_through : seen (act (defs.Builtin Indir) [] (args.Text (codes "define") ∷ args.Text (codes "q") ∷ (args.Definition (defs.Builtin Len)) ∷ []) here indirect)
+indir_hands_definitions_through : seen (act (defs.Builtin Indir) []
+    (args.Text (codes "define") ∷ args.Text (codes "q") ∷ (args.Definition (defs.Builtin Len)) ∷ []) here indirect)
     ≡ still (record {
-      table = (codes "a b", defs.Text (codes "<$0:$1>") ∷ []) ∷ (codes "define", defs.Builtin Define ∷ []) ∷ (codes "i", defs.Builtin Indir ∷ []) ∷ (codes "j", defs.Builtin IndirBuiltin ∷ []) ∷ (codes "q", defs.Builtin Len ∷ []) ∷ [];
+      table = (codes "a b", defs.Text (codes "<$0:$1>") ∷ []) ∷ (codes "define", defs.Builtin Define ∷ [])
+          ∷ (codes "i", defs.Builtin Indir ∷ []) ∷ (codes "j", defs.Builtin IndirBuiltin ∷ [])
+          ∷ (codes "q", defs.Builtin Len ∷ []) ∷ [];
       quotes = default_quotes;
       comments = default_comments;
       diversions = [];
@@ -612,19 +671,25 @@ unfolding digits
 indir_of_a_definition = refl
 
 -- ifelse takes a definition as an empty text
-ifelse_takes_a_definition_as_an_empty_text : seen (act (defs.Builtin Ifelse) [] ((args.Definition (defs.Builtin Len)) ∷ args.Text [] ∷ args.Text (codes "y") ∷ args.Text (codes "n") ∷ []) here bare)
+ifelse_takes_a_definition_as_an_empty_text : seen
+    (act (defs.Builtin Ifelse) []
+    ((args.Definition (defs.Builtin Len)) ∷ args.Text [] ∷ args.Text (codes "y") ∷ args.Text (codes "n") ∷ []) here bare)
     ≡ record (still bare) { text = codes "y" }
 unfolding digits
 ifelse_takes_a_definition_as_an_empty_text = refl
 
 -- shift with other quotes, of a definition
-shift_with_other_quotes_of_a_definition : seen (act (defs.Builtin Shift) [] (args.Text (codes "a") ∷ (args.Definition (defs.Builtin Len)) ∷ args.Text (codes "b") ∷ []) here bracketed)
+shift_with_other_quotes_of_a_definition : seen
+    (act (defs.Builtin Shift) [] (args.Text (codes "a") ∷ (args.Definition (defs.Builtin Len)) ∷ args.Text (codes "b")
+    ∷ []) here bracketed)
     ≡ record (still bracketed) { text = codes "[],[b]" }
 unfolding digits
 shift_with_other_quotes_of_a_definition = refl
 
 -- a text with all arguments quoted
-a_text_with_all_arguments_quoted : seen (act (defs.Text (codes "$@;$*;$#;$0")) (codes "f") (args.Text (codes "a") ∷ (args.Definition (defs.Builtin Len)) ∷ args.Text (codes "b") ∷ []) here bracketed)
+a_text_with_all_arguments_quoted : seen
+    (act (defs.Text (codes "$@;$*;$#;$0")) (codes "f")
+    (args.Text (codes "a") ∷ (args.Definition (defs.Builtin Len)) ∷ args.Text (codes "b") ∷ []) here bracketed)
     ≡ record (still bracketed) { text = codes "[a],[],[b];a,,b;3;f" }
 unfolding digits
 a_text_with_all_arguments_quoted = refl

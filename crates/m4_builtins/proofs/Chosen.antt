@@ -20,7 +20,8 @@ after_third : (list : List Arg) → take (length list - 3) (drop 3 list) ≡ dro
 after_third list = take_all (length list - 3) (drop 3 list) (omega (arith, length-drop 3 list))
 
 -- where the first two differ, and three or more come after the third, these choose
-chosen_on : (list others : List Arg) (x y : Arg) → others ≡ drop 3 list → 3 ≤ length others → x ≡ get_or list 0 x → y ≡ get_or list 1 y → bytes_eq (text_of_arg x) (text_of_arg y) ≡ false
+chosen_on : (list others : List Arg) (x y : Arg) → others ≡ drop 3 list → 3 ≤ length others → x ≡ get_or list 0 x
+    → y ≡ get_or list 1 y → bytes_eq (text_of_arg x) (text_of_arg y) ≡ false
     → chosen (texts_of others) ≡ chosen (texts_of list)
 chosen_on [] [] x y is le e f differ = refl
 chosen_on [] (o ∷ others) x y is le e f differ = absurd cc
@@ -34,6 +35,7 @@ chosen_on (a ∷ b ∷ c ∷ u ∷ v ∷ w ∷ rest) others x y is le e f differ
     ap (λ (xs : List Arg). chosen (texts_of xs)) is
     ∙ ap (λ (t : Bool). if t then text_of_arg c else chosen (texts_of (u ∷ v ∷ w ∷ rest))) (sym apart)
 
-pub chosen_later : (list : List Arg) (x y : Arg) → 3 ≤ length (take (length list - 3) (drop 3 list)) → x ≡ get_or list 0 x → y ≡ get_or list 1 y → bytes_eq (text_of_arg x) (text_of_arg y) ≡ false
+pub chosen_later : (list : List Arg) (x y : Arg) → 3 ≤ length (take (length list - 3) (drop 3 list))
+    → x ≡ get_or list 0 x → y ≡ get_or list 1 y → bytes_eq (text_of_arg x) (text_of_arg y) ≡ false
     → chosen (texts_of (take (length list - 3) (drop 3 list))) ≡ chosen (texts_of list)
 chosen_later list x y le e f differ = chosen_on list (take (length list - 3) (drop 3 list)) x y (after_third list) le e f differ

@@ -26,7 +26,8 @@ read_of o r x a is read same =
     sym is ∙ read ∙ ap (λ (y : List ℕ). number_of_reading (reading_of y)) same
 
 -- and the messages with the warning on it
-pub warned_of : (p : Place) (old new messages x : List ℕ) (a : Arg) → old ≡ messages → new ≡ old ++ reading_warning p Substr (reading_of x) → x ≡ text_of_arg a → new ≡ messages ++ warning_on p a
+pub warned_of : (p : Place) (old new messages x : List ℕ) (a : Arg) → old ≡ messages
+    → new ≡ old ++ reading_warning p Substr (reading_of x) → x ≡ text_of_arg a → new ≡ messages ++ warning_on p a
 warned_of p old new messages x a was warned same =
     warned ∙ (λ i. was i ++ reading_warning p Substr (reading_of (same i)))
 
@@ -79,11 +80,13 @@ module _ (p : Place) where
   by_counts (x ∷ y ∷ z ∷ rest) a b le first second =
       (λ i. substr (sym first i ∷ sym second i ∷ z ∷ rest) p)
 
-module _ (p : Place) (list counts : List Arg) (a b : Arg) (le : 2 ≤ length list) (first : a ≡ get_or list 0 a) (second : b ≡ get_or list 1 b) (rest : counts ≡ take (length list - 2) (drop 2 list)) where
+module _ (p : Place) (list counts : List Arg) (a b : Arg) (le : 2 ≤ length list) (first : a ≡ get_or list 0 a)
+    (second : b ≡ get_or list 1 b) (rest : counts ≡ take (length list - 2) (drop 2 list)) where
   by_place : substr list p ≡ with_number p Substr (reading_of (text_of_arg b)) (λ from. counted p counts (from_place from (text_of_arg a)))
   by_place =
       by_counts p list a b le first second
-      ∙ ap (λ (cs : List Arg). with_number p Substr (reading_of (text_of_arg b)) (λ from. counted p cs (from_place from (text_of_arg a)))) (sym (rest ∙ after_second list))
+      ∙ ap (λ (cs : List Arg). with_number p Substr (reading_of (text_of_arg b))
+      (λ from. counted p cs (from_place from (text_of_arg a)))) (sym (rest ∙ after_second list))
 
   -- the place is no number
   pub substr-no_place : None ≡ number_of b → substr list p ≡ only_warning (warning_on p b)
@@ -114,4 +117,6 @@ module _ (p : Place) (list counts : List Arg) (a b : Arg) (le : 2 ≤ length lis
     substr-counted c count some third number =
         by_count
         ∙ ap (warning_first (warning_on p b)) (counted-some p counts c count (from_place from (text_of_arg a)) some third number)
-        ∙ ap (λ (x : List ℕ). (record nothing { push = Some (pushes.Text (at_most count (from_place from (text_of_arg a)))); messages = x })) (sym (append_assoc (warning_on p b) (warning_on p c) []))
+        ∙ ap (λ (x : List ℕ). (record nothing
+        { push = Some (pushes.Text (at_most count (from_place from (text_of_arg a)))); messages = x }))
+        (sym (append_assoc (warning_on p b) (warning_on p c) []))

@@ -66,7 +66,11 @@ divert_to_no_number = refl
 
 -- divert with two arguments, the first no number
 divert_with_two_arguments_the_first_no_number : seen (act (defs.Builtin Divert) [] (args.Text (codes "1x") ∷ args.Text (codes "2") ∷ []) here diverting)
-    ≡ record (still diverting) { messages = codes "m4:a.m4:1: Warning: excess arguments to builtin `divert' ignored\nm4:a.m4:1: Warning: non-numeric argument to builtin `divert'\n" }
+    ≡ record (still diverting) {
+      messages =
+          codes
+          "m4:a.m4:1: Warning: excess arguments to builtin `divert' ignored\nm4:a.m4:1: Warning: non-numeric argument to builtin `divert'\n";
+    }
 unfolding digits
 divert_with_two_arguments_the_first_no_number = refl
 
@@ -143,19 +147,27 @@ unfolding digits
 undivert_of_all_where_text_is_discarded = refl
 
 -- undivert of some, in their order
-undivert_of_some_in_their_order : seen (act (defs.Builtin Undivert) [] (args.Text (codes "5") ∷ args.Text (codes "x") ∷ args.Text (codes "1") ∷ args.Text [] ∷ args.Text (codes "5") ∷ args.Text (codes "7") ∷ args.Text (codes "-1") ∷ []) here split)
+undivert_of_some_in_their_order : seen (act (defs.Builtin Undivert) []
+    (args.Text (codes "5") ∷ args.Text (codes "x") ∷ args.Text (codes "1") ∷ args.Text [] ∷ args.Text (codes "5")
+    ∷ args.Text (codes "7") ∷ args.Text (codes "-1") ∷ []) here split)
     ≡ record (still (record {
       table = [];
       quotes = default_quotes;
       comments = default_comments;
       diversions = (pos 2, codes "two\n") ∷ [];
       current = pos 0;
-    })) { messages = codes "m4:a.m4:1: Warning: non-numeric argument to builtin `undivert'\nm4:a.m4:1: Warning: empty string treated as 0 in builtin `undivert'\n"; output = codes "fiveone\n" }
+    })) {
+      messages =
+          codes
+          "m4:a.m4:1: Warning: non-numeric argument to builtin `undivert'\nm4:a.m4:1: Warning: empty string treated as 0 in builtin `undivert'\n";
+      output = codes "fiveone\n";
+    }
 unfolding digits
 undivert_of_some_in_their_order = refl
 
 -- undivert of the current one and another, to a diversion
-undivert_of_the_current_one_and_another_to_a_diversion : seen (act (defs.Builtin Undivert) [] (args.Text (codes "2") ∷ args.Text (codes "1") ∷ []) here diverting)
+undivert_of_the_current_one_and_another_to_a_diversion : seen
+    (act (defs.Builtin Undivert) [] (args.Text (codes "2") ∷ args.Text (codes "1") ∷ []) here diverting)
     ≡ still (record {
       table = [];
       quotes = default_quotes;

@@ -71,7 +71,11 @@ m4exit_with_no_number = refl
 
 -- m4exit with two arguments
 m4exit_with_two_arguments : seen (act (defs.Builtin M4exit) [] (args.Text (codes "300") ∷ args.Text (codes "x") ∷ []) here bare)
-    ≡ record (still bare) { messages = codes "m4:a.m4:1: Warning: excess arguments to builtin `m4exit' ignored\nm4:a.m4:1: Warning: exit status out of range\n"; exit = Some 1 }
+    ≡ record (still bare) {
+      messages = codes
+          "m4:a.m4:1: Warning: excess arguments to builtin `m4exit' ignored\nm4:a.m4:1: Warning: exit status out of range\n";
+      exit = Some 1;
+    }
 unfolding digits
 m4exit_with_two_arguments = refl
 

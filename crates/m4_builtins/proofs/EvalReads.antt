@@ -18,11 +18,15 @@ use Rattle.m4_builtins.proofs.ReadsOn.{reads_at_once, reads_wrong, reads_no_more
 
 -- the third argument as text, by what the look-up says of it
 module _ (list : List Arg) where
-  third_copied : (o : Option (Bor Arg)) (H : Bor Arg → Type 0) → MatchOption o (length list ≤ 2) (λ x. (2 < length list) × H x) → IfSome o (λ x. x.now ≡ get_or list 2 x.now) → option_copied o ≡ slice_get list 2
+  third_copied : (o : Option (Bor Arg)) (H : Bor Arg → Type 0)
+      → MatchOption o (length list ≤ 2) (λ x. (2 < length list) × H x) → IfSome o (λ x. x.now ≡ get_or list 2 x.now)
+      → option_copied o ≡ slice_get list 2
   third_copied None H m i = sym (slice_get_past list 2 m)
   third_copied (Some x) H m i = sym (slice_get_read list (length list) 2 x.now refl m.0 i)
 
-  pub third : (o : Option (Bor Arg)) (H : Bor Arg → Type 0) → MatchOption o (length list ≤ 2) (λ x. (2 < length list) × H x) → IfSome o (λ x. x.now ≡ get_or list 2 x.now) → option_map text_of_arg (option_copied o) ≡ slice_get (texts_of list) 2
+  pub third : (o : Option (Bor Arg)) (H : Bor Arg → Type 0)
+      → MatchOption o (length list ≤ 2) (λ x. (2 < length list) × H x) → IfSome o (λ x. x.now ≡ get_or list 2 x.now)
+      → option_map text_of_arg (option_copied o) ≡ slice_get (texts_of list) 2
   third o H m i = ap (option_map text_of_arg) (third_copied o H m i) ∙ sym (slice_get-map text_of_arg list 2)
 
 -- the same argument, and the same answer
@@ -47,7 +51,8 @@ module _ (p : Place) where
     radix_lost (Some radix) h e = cc
 
   -- a text that is not empty is read as a number, and that as a radix
-  pub radix_read : (text : List ℕ) (n : ℤ) (before between now : List ℕ) → text ≢ [] → Some n ≡ number_of_reading (reading_of text) → between ≡ before ++ reading_warning p Eval (reading_of text)
+  pub radix_read : (text : List ℕ) (n : ℤ) (before between now : List ℕ) → text ≢ []
+      → Some n ≡ number_of_reading (reading_of text) → between ≡ before ++ reading_warning p Eval (reading_of text)
       → ReadsAs (radix_of_number n) (radix_at n) between now → ReadsAs (with_radix p text) (radix_at n) before now
   radix_read [] n before between now some e warned after_it = absurd (some refl)
   radix_read (b ∷ x) n before between now some e warned after_it =
@@ -69,10 +74,13 @@ module _ (p : Place) where
         reads_on (with_radix p (text_at list 1)) width_after radix None before between now r
         (reads_no_more (with_width p (slice_get (texts_of list) 2)) (value_after radix) between now w)
 
-    value_then : (radix width : ℕ) (o : Option ℤ) (before now : List ℕ) → ReadsAs (with_value p (text_at list 0)) o before now → ReadsAs (value_after radix width) (option_map (in_radix radix width) o) before now
+    value_then : (radix width : ℕ) (o : Option ℤ) (before now : List ℕ)
+        → ReadsAs (with_value p (text_at list 0)) o before now
+        → ReadsAs (value_after radix width) (option_map (in_radix radix width) o) before now
     value_then radix width None before now v = reads_no_more (with_value p (text_at list 0)) (λ n does. does (in_radix radix width n)) before now v
     value_then radix width (Some n) before now v =
-        reads_on (with_value p (text_at list 0)) (λ m does. does (in_radix radix width m)) n (Some (in_radix radix width n)) before now now v (reads_at_once (in_radix radix width n) now)
+        reads_on (with_value p (text_at list 0)) (λ m does. does (in_radix radix width m)) n
+        (Some (in_radix radix width n)) before now now v (reads_at_once (in_radix radix width n) now)
 
     pub digits_read : (radix width : ℕ) (o : Option ℤ) (before first second now : List ℕ) → ReadsAs (with_radix p (text_at list 1)) (Some radix) before first
         → ReadsAs (with_width p (slice_get (texts_of list) 2)) (Some width) first second → ReadsAs (with_value p (text_at list 0)) o second now

@@ -300,7 +300,12 @@ empty_width_then_divide = refl
 
 -- both empty
 both_empty : seen (act (defs.Builtin Eval) [] (args.Text [] ∷ args.Text (codes "10") ∷ args.Text [] ∷ []) here bare)
-    ≡ record (still bare) { text = codes "0"; messages = codes "m4:a.m4:1: Warning: empty string treated as 0 in builtin `eval'\nm4:a.m4:1: Warning: empty string treated as 0 in builtin `eval'\n" }
+    ≡ record (still bare) {
+      text = codes "0";
+      messages =
+          codes
+          "m4:a.m4:1: Warning: empty string treated as 0 in builtin `eval'\nm4:a.m4:1: Warning: empty string treated as 0 in builtin `eval'\n";
+    }
 unfolding digits int_wrap
 both_empty = refl
 
@@ -335,7 +340,8 @@ unfolding digits int_wrap
 eval_without_arguments = refl
 
 -- with four
-eval_with_four : seen (act (defs.Builtin Eval) [] (args.Text (codes "1") ∷ args.Text (codes "2") ∷ args.Text (codes "3") ∷ args.Text (codes "x") ∷ []) here bare)
+eval_with_four : seen (act (defs.Builtin Eval) []
+    (args.Text (codes "1") ∷ args.Text (codes "2") ∷ args.Text (codes "3") ∷ args.Text (codes "x") ∷ []) here bare)
     ≡ record (still bare) { text = codes "001"; messages = codes "m4:a.m4:1: Warning: excess arguments to builtin `eval' ignored\n" }
 unfolding digits int_wrap
 eval_with_four = refl

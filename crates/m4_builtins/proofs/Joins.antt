@@ -31,7 +31,8 @@ module _ (q : Delimiters) (separator out mid new text all : List ℕ) (rest : Li
   abbrev left : List ℕ
   left = joined_rest false separator (map (quoted q) rest)
 
-  rejoined : (b : Bool) → first ≡ b → out ++ joined_rest first separator (this ∷ map (quoted q) rest) ≡ all → out ++ joined_rest b separator (this ∷ map (quoted q) rest) ≡ all
+  rejoined : (b : Bool) → first ≡ b → out ++ joined_rest first separator (this ∷ map (quoted q) rest) ≡ all
+      → out ++ joined_rest b separator (this ∷ map (quoted q) rest) ≡ all
   rejoined b is before = ap (λ (v : Bool). out ++ joined_rest v separator (this ∷ map (quoted q) rest)) (sym is) ∙ before
 
   pub quoted_first : first ≡ true → mid ≡ out → new ≡ mid ++ this → out ++ joined_rest first separator (this ∷ map (quoted q) rest) ≡ all → new ++ left ≡ all
@@ -41,7 +42,8 @@ module _ (q : Delimiters) (separator out mid new text all : List ℕ) (rest : Li
       ∙ ap (λ (y : List ℕ). out ++ y) (sym (joined_step separator this (map (quoted q) rest)))
       ∙ rejoined true is before
 
-  pub quoted_later : first ≡ false → mid ≡ out ++ separator → new ≡ mid ++ this → out ++ joined_rest first separator (this ∷ map (quoted q) rest) ≡ all → new ++ left ≡ all
+  pub quoted_later : first ≡ false → mid ≡ out ++ separator → new ≡ mid ++ this
+      → out ++ joined_rest first separator (this ∷ map (quoted q) rest) ≡ all → new ++ left ≡ all
   quoted_later is m n before =
       ap (λ (y : List ℕ). y ++ left) (n ∙ ap (λ (y : List ℕ). y ++ this) m)
       ∙ append_assoc (out ++ separator) this left
@@ -56,11 +58,14 @@ number_from n digits = fold (λ m d. m * 10 + (d - digit_zero)) n digits
 -- it is no less
 pub number_grows : (n : ℕ) (digits : List ℕ) → n ≤ number_from n digits
 number_grows n [] = omega arith
-number_grows n (d ∷ digits) = let more : n * 10 + (d - digit_zero) ≤ number_from (n * 10 + (d - digit_zero)) digits = number_grows (n * 10 + (d - digit_zero)) digits in omega arith
+number_grows n (d ∷ digits) = let more : n * 10 + (d - digit_zero) ≤ number_from (n * 10 + (d - digit_zero)) digits =
+    number_grows (n * 10 + (d - digit_zero)) digits in omega arith
 
 -- the next digit
-pub number_next : (n i : ℕ) (digits : List ℕ) → i < length digits → number_from n (drop i digits) ≡ number_from (n * 10 + (get_or digits i 0 - digit_zero)) (drop (i + 1) digits)
-number_next n i digits h = ap (number_from n) (drop-cons digits i 0 h) ∙ ap (λ (j : ℕ). number_from (n * 10 + (get_or digits i 0 - digit_zero)) (drop j digits)) (sym (add-one i))
+pub number_next : (n i : ℕ) (digits : List ℕ) → i < length digits
+    → number_from n (drop i digits) ≡ number_from (n * 10 + (get_or digits i 0 - digit_zero)) (drop (i + 1) digits)
+number_next n i digits h = ap (number_from n) (drop-cons digits i 0 h)
+    ∙ ap (λ (j : ℕ). number_from (n * 10 + (get_or digits i 0 - digit_zero)) (drop j digits)) (sym (add-one i))
 
 -- the text of an argument that is there
 pub get_map : (xs : List Arg) (k : ℕ) (d : Arg) → k < length xs → slice_get (map text_of_arg xs) k ≡ Some (text_of_arg (get_or xs k d))
@@ -76,7 +81,8 @@ get_past (x ∷ xs) zero h = absurd (omega arith)
 get_past (x ∷ xs) (suc k) h = get_past xs k (omega arith)
 
 -- the argument of a number that is no more than their count
-pub nth_within : (name : List ℕ) (xs : List Arg) (n : ℕ) (a : Arg) → (n ≡ 0 → ⊥) → n ≤ length xs → a ≡ get_or xs (n - 1) a → nth_text name (map text_of_arg xs) n ≡ text_of_arg a
+pub nth_within : (name : List ℕ) (xs : List Arg) (n : ℕ) (a : Arg) → (n ≡ 0 → ⊥) → n ≤ length xs
+    → a ≡ get_or xs (n - 1) a → nth_text name (map text_of_arg xs) n ≡ text_of_arg a
 nth_within name xs zero a ne le is = absurd (ne refl)
 nth_within name xs (suc n) a ne le is =
     let f : suc n - 1 ≡ n = omega arith in
@@ -98,18 +104,21 @@ pub run_stops : (f : ℕ → Bool) (x : List ℕ) (b : ℕ) (y : List ℕ) → d
 run_stops f [] b y e = absurd cc
 run_stops f (c ∷ x) b y e = by (f c) refl e (run_stops f x b y)
   where
-    by : (t : Bool) → f c ≡ t → drop (elim t [ true ↦ suc (run_length f x) | false ↦ 0 ]) (c ∷ x) ≡ b ∷ y → (drop (run_length f x) x ≡ b ∷ y → f b ≡ false) → f b ≡ false
+    by : (t : Bool) → f c ≡ t → drop (elim t [ true ↦ suc (run_length f x) | false ↦ 0 ]) (c ∷ x) ≡ b ∷ y
+        → (drop (run_length f x) x ≡ b ∷ y → f b ≡ false) → f b ≡ false
     by true is e later = later e
     by false is e later = let same : c ≡ b = cc in ap f (sym same) ∙ is
 
 -- bytes before the first dollar are copied
-pub subst_plain : (name : List ℕ) (xs : List (List ℕ)) (q : Delimiters) (x : List ℕ) → let n = run_length (λ b. not (b == dollar)) x in subst_from name xs q 0 x ≡ take n x ++ subst_from name xs q 0 (drop n x)
+pub subst_plain : (name : List ℕ) (xs : List (List ℕ)) (q : Delimiters) (x : List ℕ)
+    → let n = run_length (λ b. not (b == dollar)) x in subst_from name xs q 0 x ≡ take n x ++ subst_from name xs q 0 (drop n x)
 subst_plain name xs q [] = refl
 subst_plain name xs q (b ∷ x) = by (b == dollar) refl (subst_plain name xs q x)
   where
     by : (t : Bool) → (b == dollar) ≡ t
         → (let n = run_length (λ b. not (b == dollar)) x in subst_from name xs q 0 x ≡ take n x ++ subst_from name xs q 0 (drop n x))
-        → let n : ℕ = elim (not t) [ true ↦ suc (run_length (λ b. not (b == dollar)) x) | false ↦ 0 ] in subst_from name xs q 0 (b ∷ x) ≡ take n (b ∷ x) ++ subst_from name xs q 0 (drop n (b ∷ x))
+        → let n : ℕ = elim (not t) [ true ↦ suc (run_length (λ b. not (b == dollar)) x) | false ↦ 0 ] in subst_from name
+        xs q 0 (b ∷ x) ≡ take n (b ∷ x) ++ subst_from name xs q 0 (drop n (b ∷ x))
     by true is later = refl
     by false is later = rw is (ap (λ (y : List ℕ). b ∷ y) later)
 
@@ -129,7 +138,8 @@ subst_dollar name xs q b y h =
     rw here (ap (λ (z : List ℕ). p.0 ++ z) (subst_skip name xs q p.1 y))
 
 -- a text's front is written: all of the text is plain
-pub front_plain : (name : List ℕ) (xs : List (List ℕ)) (q : Delimiters) (out out' x y : List ℕ) (n : ℕ) → n ≡ run_length (λ b. not (b == dollar)) x → y ≡ drop n x → out' ≡ out ++ take n x
+pub front_plain : (name : List ℕ) (xs : List (List ℕ)) (q : Delimiters) (out out' x y : List ℕ) (n : ℕ)
+    → n ≡ run_length (λ b. not (b == dollar)) x → y ≡ drop n x → out' ≡ out ++ take n x
     → out' ++ subst_from name xs q 0 y ≡ out ++ subst_from name xs q 0 x
 front_plain name xs q out out' x y n e f g =
     ap (λ (z : List ℕ). z ++ subst_from name xs q 0 y) g ∙ append_assoc out (take n x) (subst_from name xs q 0 y)
@@ -138,7 +148,8 @@ front_plain name xs q out out' x y n e f g =
     ∙ ap (λ (z : List ℕ). out ++ z) (sym (subst_plain name xs q x))
 
 -- the start of a text is written, and the replacement of the dollar after it
-pub front_dollar : (name : List ℕ) (xs : List (List ℕ)) (q : Delimiters) (out mid out' x y z rest : List ℕ) (n b used : ℕ) → n ≡ run_length (λ b. not (b == dollar)) x → y ≡ drop n x → mid ≡ out ++ take n x
+pub front_dollar : (name : List ℕ) (xs : List (List ℕ)) (q : Delimiters) (out mid out' x y z rest : List ℕ)
+    (n b used : ℕ) → n ≡ run_length (λ b. not (b == dollar)) x → y ≡ drop n x → mid ≡ out ++ take n x
     → y ≡ b ∷ z → used ≡ (after_dollar name xs q z).1 → out' ≡ mid ++ (after_dollar name xs q z).0 → rest ≡ drop used z
     → out' ++ subst_from name xs q 0 rest ≡ out ++ subst_from name xs q 0 x
 front_dollar name xs q out mid out' x y z rest n b used e f g here h i j =
@@ -156,7 +167,8 @@ too_great (Some k) n digits m is e h = absurd cc
 too_great None n digits m is e h = let more : n ≤ number_from n digits = number_grows n digits in omega arith
 
 -- a text without a dollar is its own expansion
-pub all_plain : (name : List ℕ) (texts : List (List ℕ)) (q : Delimiters) (x : List ℕ) → run_length (λ b. not (b == dollar)) x ≡ length x → subst_from name texts q 0 x ≡ x
+pub all_plain : (name : List ℕ) (texts : List (List ℕ)) (q : Delimiters) (x : List ℕ)
+    → run_length (λ b. not (b == dollar)) x ≡ length x → subst_from name texts q 0 x ≡ x
 all_plain name texts q x h =
     subst_plain name texts q x
     ∙ ap (λ m. take m x ++ subst_from name texts q 0 (drop m x)) h

@@ -23,10 +23,6 @@ reads_at_once x before = ([], sym (append-nil before), (λ does. refl))
 pub reads_wrong : {A : Type 0} (warning before now : List ℕ) → now ≡ before ++ warning → ReadsAs {A = A} (λ does. only_warning warning) None before now
 reads_wrong warning before now grown = (warning, grown, (λ does. refl))
 
--- a value, after a warning
-pub reads_warned : {A : Type 0} (x : A) (warning before now : List ℕ) → now ≡ before ++ warning → ReadsAs (λ does. warning_first warning (does x)) (Some x) before now
-reads_warned x warning before now grown = (warning, grown, (λ does. refl))
-
 -- what comes first is wrong, and nothing is read after it
 pub reads_no_more : {A B : Type 0} (first : (A → Effect) → Effect) (next : A → (B → Effect) → Effect) (before now : List ℕ)
     → ReadsAs first None before now → ReadsAs (λ does. first (λ x. next x does)) None before now
@@ -42,7 +38,8 @@ reads_on first next x o before between now (v, grown, same) (w, grown_2, same_2)
 )
 
 -- a number, as it was read
-pub reads_number : (p : Place) (b : Builtin) (r : Reading) (o : Option ℤ) (before now : List ℕ) → o ≡ number_of_reading r → now ≡ before ++ reading_warning p b r
+pub reads_number : (p : Place) (b : Builtin) (r : Reading) (o : Option ℤ) (before now : List ℕ)
+    → o ≡ number_of_reading r → now ≡ before ++ reading_warning p b r
     → ReadsAs (with_number p b r) o before now
 reads_number p b r None before now e grown = (reading_warning p b r, grown, (λ does. with_number-none p b does r e))
 reads_number p b r (Some n) before now e grown = (reading_warning p b r, grown, (λ does. with_number-some p b does r n e))

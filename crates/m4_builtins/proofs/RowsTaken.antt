@@ -143,8 +143,10 @@ row_taken inner Len list p s = ap (λ (x : List ℕ). leaves s (expands (decimal
 row_taken inner Index list p s = λ i. leaves s (expands (place_shown (place_in (text_taken list 0 i) (text_taken list 1 i))))
 row_taken inner Substr list p s = ap (leaves s) (substr_taken list p)
 row_taken inner Translit list p s = λ i. leaves s (expands (translated (text_taken list 0 i) (ranges (text_taken list 1 i)) (ranges (text_taken list 2 i))))
-row_taken inner Incr list p s = ap (λ (x : List ℕ). leaves s (with_number p Incr (reading_of x) (λ n. expands (signed_decimal (int_wrapping_add w32 n (pos 1)))))) (text_taken list 0)
-row_taken inner Decr list p s = ap (λ (x : List ℕ). leaves s (with_number p Decr (reading_of x) (λ n. expands (signed_decimal (int_wrapping_sub w32 n (pos 1)))))) (text_taken list 0)
+row_taken inner Incr list p s = ap (λ (x : List ℕ). leaves s
+    (with_number p Incr (reading_of x) (λ n. expands (signed_decimal (int_wrapping_add w32 n (pos 1)))))) (text_taken list 0)
+row_taken inner Decr list p s = ap (λ (x : List ℕ). leaves s
+    (with_number p Decr (reading_of x) (λ n. expands (signed_decimal (int_wrapping_sub w32 n (pos 1)))))) (text_taken list 0)
 row_taken inner Eval list p s = ap (leaves s) (eval_taken list p)
 row_taken inner Errprint list p s = ap (λ (texts : List (List ℕ)). leaves s (only_warning (with_spaces texts))) (texts_taken list)
 row_taken inner M4wrap list p s = ap (λ (texts : List (List ℕ)). leaves s (record nothing { wrap = Some (with_spaces texts) })) (texts_taken list)
@@ -153,22 +155,26 @@ row_taken inner File list p s = refl
 row_taken inner Line list p s = refl
 
 -- with arguments that are enough, and not too many
-pub acts_plainly : (inner : Inner) (b : Builtin) (list : List Arg) (p : Place) (s : State) → nat_lt (length list) (least_of b) ≡ false → is_above (most_of b) (length list) ≡ false
+pub acts_plainly : (inner : Inner) (b : Builtin) (list : List Arg) (p : Place) (s : State)
+    → nat_lt (length list) (least_of b) ≡ false → is_above (most_of b) (length list) ≡ false
     → act_unless inner (nat_lt (length list) (least_of b)) b list p s ≡ row inner b list p s
 acts_plainly inner b list p s enough is =
     ap (λ (few : Bool). act_unless inner few b list p s) enough
     ∙ ap (λ (r : Acted). warned (excess_if (is_above (most_of b) (length list)) p b) r) (row_taken inner b list p s)
     ∙ ap (λ (more : Bool). warned (excess_if more p b) (row inner b list p s)) is
 
-module _ (inner : Inner) (b : Builtin) (list : List Arg) (p : Place) (s t : State) (e : Effect) (enough : nat_lt (length list) (least_of b) ≡ false) (does : row inner b list p s ≡ leaves t e) where
-  acts : (above : Bool) → is_above (most_of b) (length list) ≡ above → act_unless inner (nat_lt (length list) (least_of b)) b list p s ≡ warned (excess_if above p b) (leaves t e)
+module _ (inner : Inner) (b : Builtin) (list : List Arg) (p : Place) (s t : State) (e : Effect)
+    (enough : nat_lt (length list) (least_of b) ≡ false) (does : row inner b list p s ≡ leaves t e) where
+  acts : (above : Bool) → is_above (most_of b) (length list) ≡ above
+      → act_unless inner (nat_lt (length list) (least_of b)) b list p s ≡ warned (excess_if above p b) (leaves t e)
   acts above is =
       ap (λ (few : Bool). act_unless inner few b list p s) enough
       ∙ ap (λ (r : Acted). warned (excess_if (is_above (most_of b) (length list)) p b) r) (row_taken inner b list p s ∙ does)
       ∙ ap (λ (more : Bool). warned (excess_if more p b) (leaves t e)) is
 
   -- arguments above the most
-  pub acts_warning : (message : List ℕ) (f : Effect) → is_above (most_of b) (length list) ≡ true → message ≡ excess p b → f ≡ record e { messages = message ++ e.messages }
+  pub acts_warning : (message : List ℕ) (f : Effect) → is_above (most_of b) (length list) ≡ true → message ≡ excess p b
+      → f ≡ record e { messages = message ++ e.messages }
       → act_unless inner (nat_lt (length list) (least_of b)) b list p s ≡ leaves t f
   acts_warning message f is same made =
       acts true is ∙ ap (λ (x : List ℕ). warned x (leaves t e)) (sym same)

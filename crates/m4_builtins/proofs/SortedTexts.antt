@@ -87,8 +87,10 @@ neither Greater a b = absurd cc
 -- lists that rise and have each name as often are one
 same_rising : (xs ys : List (List ℕ)) → IsRising xs → IsRising ys → ((x : List ℕ) → sum_by (counted x) xs ≡ sum_by (counted x) ys) → xs ≡ ys
 same_rising [] [] h g same = refl
-same_rising [] (y ∷ ys) h g same = let none : 0 ≡ counted y y + sum_by (counted y) ys = same y ∙ sum_by-cons (counted y) y ys in absurd (omega (arith, counted_itself y))
-same_rising (x ∷ xs) [] h g same = let none : counted x x + sum_by (counted x) xs ≡ 0 = sym (sum_by-cons (counted x) x xs) ∙ same x in absurd (omega (arith, counted_itself x))
+same_rising [] (y ∷ ys) h g same = let none : 0 ≡ counted y y + sum_by (counted y) ys = same y
+    ∙ sum_by-cons (counted y) y ys in absurd (omega (arith, counted_itself y))
+same_rising (x ∷ xs) [] h g same = let none : counted x x + sum_by (counted x) xs ≡ 0 =
+    sym (sum_by-cons (counted x) x xs) ∙ same x in absurd (omega (arith, counted_itself x))
 same_rising (x ∷ xs) (y ∷ ys) h g same =
     let same_x : counted x x + sum_by (counted x) xs ≡ sum_by (counted x) (y ∷ ys) = sym (sum_by-cons (counted x) x xs) ∙ same x in
     let same_y : sum_by (counted y) (x ∷ xs) ≡ counted y y + sum_by (counted y) ys = same y ∙ sum_by-cons (counted y) y ys in
@@ -99,7 +101,8 @@ same_rising (x ∷ xs) (y ∷ ys) h g same =
     let tie : byte_order x y ≡ Equal = neither (byte_order x y) not_less (ap is_lt (sym (nat_list_cmp_total.antisymm y x)) ∙ not_more) in
     let heads : x ≡ y = byte_order-IsAntisymmetric x y tie in
     let tails : xs ≡ ys = same_rising xs ys h.1 g.1 (λ z.
-    let all : counted z x + sum_by (counted z) xs ≡ counted z y + sum_by (counted z) ys = sym (sum_by-cons (counted z) x xs) ∙ same z ∙ sum_by-cons (counted z) y ys in
+    let all : counted z x + sum_by (counted z) xs ≡ counted z y + sum_by (counted z) ys =
+    sym (sum_by-cons (counted z) x xs) ∙ same z ∙ sum_by-cons (counted z) y ys in
     let first : counted z x ≡ counted z y = ap (counted z) heads in
     omega arith) in
     ap (λ (z : List ℕ). z ∷ xs) heads ∙ ap (λ (zs : List (List ℕ)). y ∷ zs) tails
@@ -109,7 +112,9 @@ placed_counts : (z name : List ℕ) (names : List (List ℕ)) → sum_by (counte
 placed_counts z name [] = sum_by-cons (counted z) name []
 placed_counts z name (other ∷ names) = by (below other name) (placed_counts z name names)
   where
-    by : (b : Bool) → sum_by (counted z) (placed name names) ≡ counted z name + sum_by (counted z) names → sum_by (counted z) (if b then other ∷ placed name names else name ∷ other ∷ names) ≡ counted z name + sum_by (counted z) (other ∷ names)
+    by : (b : Bool) → sum_by (counted z) (placed name names) ≡ counted z name + sum_by (counted z) names
+        → sum_by (counted z) (if b then other ∷ placed name names else name ∷ other ∷ names)
+        ≡ counted z name + sum_by (counted z) (other ∷ names)
     by true later =
         let first = sum_by-cons (counted z) other (placed name names) in
         let last = sum_by-cons (counted z) other names in
@@ -143,7 +148,8 @@ ordered_rises (name ∷ names) = placed_rises name (in_byte_order names) (ordere
 
 ordered_counts : (z : List ℕ) (names : List (List ℕ)) → sum_by (counted z) (in_byte_order names) ≡ sum_by (counted z) names
 ordered_counts z [] = refl
-ordered_counts z (name ∷ names) = placed_counts z name (in_byte_order names) ∙ ap (λ (n : ℕ). counted z name + n) (ordered_counts z names) ∙ sym (sum_by-cons (counted z) name names)
+ordered_counts z (name ∷ names) = placed_counts z name (in_byte_order names)
+    ∙ ap (λ (n : ℕ). counted z name + n) (ordered_counts z names) ∙ sym (sum_by-cons (counted z) name names)
 
 -- names that were sorted are those in byte order
 pub sorted_in_byte_order : (names sorted : List (List ℕ)) → IsPermutation names sorted → IsSortedBy below sorted → sorted ≡ in_byte_order names

@@ -130,32 +130,42 @@ unfolding digits
 substr_with_a_count_of_0 = refl
 
 -- substr with a count that is large
-substr_with_a_count_that_is_large : seen (act (defs.Builtin Substr) [] (args.Text (codes "abc") ∷ args.Text (codes "1") ∷ args.Text (codes "2147483647") ∷ []) here bare)
+substr_with_a_count_that_is_large : seen
+    (act (defs.Builtin Substr) []
+    (args.Text (codes "abc") ∷ args.Text (codes "1") ∷ args.Text (codes "2147483647") ∷ []) here bare)
     ≡ record (still bare) { text = codes "bc" }
 unfolding digits
 substr_with_a_count_that_is_large = refl
 
 -- substr with a bad count after the end
-substr_with_a_bad_count_after_the_end : seen (act (defs.Builtin Substr) [] (args.Text (codes "abc") ∷ args.Text (codes "9") ∷ args.Text (codes "x") ∷ []) here bare)
+substr_with_a_bad_count_after_the_end : seen
+    (act (defs.Builtin Substr) [] (args.Text (codes "abc") ∷ args.Text (codes "9") ∷ args.Text (codes "x") ∷ []) here bare)
     ≡ record (still bare) { messages = codes "m4:a.m4:1: Warning: non-numeric argument to builtin `substr'\n" }
 unfolding digits
 substr_with_a_bad_count_after_the_end = refl
 
 -- substr with a bad start and a bad count
-substr_with_a_bad_start_and_a_bad_count : seen (act (defs.Builtin Substr) [] (args.Text (codes "abc") ∷ args.Text (codes "x") ∷ args.Text (codes "y") ∷ []) here bare)
+substr_with_a_bad_start_and_a_bad_count : seen
+    (act (defs.Builtin Substr) [] (args.Text (codes "abc") ∷ args.Text (codes "x") ∷ args.Text (codes "y") ∷ []) here bare)
     ≡ record (still bare) { messages = codes "m4:a.m4:1: Warning: non-numeric argument to builtin `substr'\n" }
 unfolding digits
 substr_with_a_bad_start_and_a_bad_count = refl
 
 -- substr with both empty
 substr_with_both_empty : seen (act (defs.Builtin Substr) [] (args.Text (codes "abc") ∷ args.Text [] ∷ args.Text [] ∷ []) here bare)
-    ≡ record (still bare) { messages = codes "m4:a.m4:1: Warning: empty string treated as 0 in builtin `substr'\nm4:a.m4:1: Warning: empty string treated as 0 in builtin `substr'\n" }
+    ≡ record (still bare) {
+      messages = codes
+          "m4:a.m4:1: Warning: empty string treated as 0 in builtin `substr'\nm4:a.m4:1: Warning: empty string treated as 0 in builtin `substr'\n";
+    }
 unfolding digits
 substr_with_both_empty = refl
 
 -- substr with an empty start and a bad count
 substr_with_an_empty_start_and_a_bad_count : seen (act (defs.Builtin Substr) [] (args.Text (codes "abc") ∷ args.Text [] ∷ args.Text (codes "y") ∷ []) here bare)
-    ≡ record (still bare) { messages = codes "m4:a.m4:1: Warning: empty string treated as 0 in builtin `substr'\nm4:a.m4:1: Warning: non-numeric argument to builtin `substr'\n" }
+    ≡ record (still bare) {
+      messages = codes
+          "m4:a.m4:1: Warning: empty string treated as 0 in builtin `substr'\nm4:a.m4:1: Warning: non-numeric argument to builtin `substr'\n";
+    }
 unfolding digits
 substr_with_an_empty_start_and_a_bad_count = refl
 
@@ -166,13 +176,16 @@ unfolding digits
 substr_with_one_argument = refl
 
 -- substr with four
-substr_with_four : seen (act (defs.Builtin Substr) [] (args.Text (codes "abc") ∷ args.Text (codes "1") ∷ args.Text (codes "1") ∷ args.Text (codes "z") ∷ []) here bare)
+substr_with_four : seen (act (defs.Builtin Substr) []
+    (args.Text (codes "abc") ∷ args.Text (codes "1") ∷ args.Text (codes "1") ∷ args.Text (codes "z") ∷ []) here bare)
     ≡ record (still bare) { text = codes "b"; messages = codes "m4:a.m4:1: Warning: excess arguments to builtin `substr' ignored\n" }
 unfolding digits
 substr_with_four = refl
 
 -- translit of ranges that rise and fall
-translit_of_ranges_that_rise_and_fall : seen (act (defs.Builtin Translit) [] (args.Text (codes "abcba") ∷ args.Text (codes "a-c") ∷ args.Text (codes "C-A") ∷ []) here bare)
+translit_of_ranges_that_rise_and_fall : seen
+    (act (defs.Builtin Translit) [] (args.Text (codes "abcba") ∷ args.Text (codes "a-c") ∷ args.Text (codes "C-A") ∷ [])
+    here bare)
     ≡ record (still bare) { text = codes "CBABC" }
 unfolding digits
 translit_of_ranges_that_rise_and_fall = refl
@@ -184,13 +197,15 @@ unfolding digits
 translit_that_deletes = refl
 
 -- translit of dashes
-translit_of_dashes : seen (act (defs.Builtin Translit) [] (args.Text (codes "+,-12345") ∷ args.Text (codes "+--1-5") ∷ args.Text (codes "<;>a-c-a") ∷ []) here bare)
+translit_of_dashes : seen (act (defs.Builtin Translit) []
+    (args.Text (codes "+,-12345") ∷ args.Text (codes "+--1-5") ∷ args.Text (codes "<;>a-c-a") ∷ []) here bare)
     ≡ record (still bare) { text = codes "<;>abcba" }
 unfolding digits
 translit_of_dashes = refl
 
 -- translit with a dash first and last
-translit_with_a_dash_first_and_last : seen (act (defs.Builtin Translit) [] (args.Text (codes "a-b") ∷ args.Text (codes "-a-") ∷ args.Text (codes "xyz") ∷ []) here bare)
+translit_with_a_dash_first_and_last : seen
+    (act (defs.Builtin Translit) [] (args.Text (codes "a-b") ∷ args.Text (codes "-a-") ∷ args.Text (codes "xyz") ∷ []) here bare)
     ≡ record (still bare) { text = codes "yxb" }
 unfolding digits
 translit_with_a_dash_first_and_last = refl
@@ -202,7 +217,8 @@ unfolding digits
 translit_with_a_byte_twice = refl
 
 -- translit with a range of one byte
-translit_with_a_range_of_one_byte : seen (act (defs.Builtin Translit) [] (args.Text (codes "aab") ∷ args.Text (codes "a-a") ∷ args.Text (codes "x-z") ∷ []) here bare)
+translit_with_a_range_of_one_byte : seen
+    (act (defs.Builtin Translit) [] (args.Text (codes "aab") ∷ args.Text (codes "a-a") ∷ args.Text (codes "x-z") ∷ []) here bare)
     ≡ record (still bare) { text = codes "xxb" }
 unfolding digits
 translit_with_a_range_of_one_byte = refl
@@ -226,7 +242,8 @@ unfolding digits
 translit_with_one_argument = refl
 
 -- translit with four
-translit_with_four : seen (act (defs.Builtin Translit) [] (args.Text (codes "abc") ∷ args.Text (codes "b") ∷ args.Text (codes "x") ∷ args.Text (codes "y") ∷ []) here bare)
+translit_with_four : seen (act (defs.Builtin Translit) []
+    (args.Text (codes "abc") ∷ args.Text (codes "b") ∷ args.Text (codes "x") ∷ args.Text (codes "y") ∷ []) here bare)
     ≡ record (still bare) { text = codes "axc"; messages = codes "m4:a.m4:1: Warning: excess arguments to builtin `translit' ignored\n" }
 unfolding digits
 translit_with_four = refl

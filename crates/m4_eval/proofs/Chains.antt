@@ -5,13 +5,12 @@ use Rattle.std.proofs.Common.{true≢false}
 use Rattle.std.specs.Prelude.{◌==◌, ◌||◌}
 use Rattle.std.proofs.lemmas.Bool.{ne_eqb, lt-ltb}
 use Rattle.std.proofs.lemmas.Option.{none-some}
-use Rattle.m4_input.specs.Ascii.{open_parenthesis, close_parenthesis, digit_zero, is_space}
+use Rattle.m4_input.specs.Ascii.{open_parenthesis, close_parenthesis, is_space}
 use Rattle.m4_input.specs.Token.{run_length}
 use Rattle.m4_eval.specs.declared.frame.Frame.{Frame}
 use Rattle.m4_eval.specs.declared.operator.Operator.{Operator}
 use Rattle.m4_eval.specs.ReadExpression.{literal_at, sign_at, operator_at, is_alphanumeric, run_of, is_either}
-use Rattle.m4_eval.specs.ReadExpression.{number_of, of_length, in_marked_radix, in_stated_radix, in_radix_from}
-use Rattle.m4_eval.specs.ReadExpression.{after_zero}
+use Rattle.m4_eval.specs.ReadExpression.{in_radix_from}
 use Rattle.m4_eval.specs.EvaluateSteps.{Place, with_signs, step_from, after_step, alone, closed_place, operated_place}
 use Rattle.m4_eval.specs.EvaluateSteps.{joined_while, values_from}
 use Rattle.m4_eval.specs.Expression.{level_of}
@@ -85,41 +84,11 @@ decimal_read w b x y z l m n d h e =
     let f = from_digit_is 10 b x (run_of x) (Some z) (omega arith) t (omega (arith, d)) refl (sym h) in
     sym (literal_read w b (length (run_of x)) x y z l m (f ∙ ap (option_map in_bits) (sym at)) e)
 
--- the same for a zero with no digit or letter after it
-no_alphanumeric : (c : ℕ) (x : List ℕ) → run_of (c ∷ x) ≡ [] → is_alphanumeric c ≡ false
-no_alphanumeric c x h = go (is_alphanumeric c) refl h
-  where
-    go : (t : Bool) → is_alphanumeric c ≡ t → cond t (c ∷ run_of x) [] ≡ [] → is_alphanumeric c ≡ false
-    go true e k = cc
-    go false e k = e
-
 no_letter : (c d : ℕ) → is_alphanumeric c ≡ false → is_alphanumeric d ≡ true → (c == d) ≡ false
 no_letter c d n t = ne_eqb c d (λ e. true≢false (sym t ∙ ap is_alphanumeric (sym e) ∙ n))
 
 neither : (c small capital : ℕ) → (c == small) ≡ false → (c == capital) ≡ false → is_either c small capital ≡ false
 neither c small capital e f = ap (λ t. t || (c == capital)) e ∙ f
-
-abbrev zero_case : Bool → Bool → Bool → List ℕ → List ℕ → Option (ℕ × ℕ)
-zero_case p q r x run =
-    cond p (in_marked_radix 16 x) (cond q (in_marked_radix 2 x) (cond r (in_stated_radix x)
-    (of_length (length run) (number_of 8 (digit_zero ∷ run)))))
-
-after_zero_alone : (x : List ℕ) → run_of x ≡ [] → after_zero x ≡ Some (0, 0)
-after_zero_alone [] h = refl
-after_zero_alone (c ∷ x) h =
-    let n = no_alphanumeric c x h in
-    let p = neither c 120 88 (no_letter c 120 n refl) (no_letter c 88 n refl) in
-    let q = neither c 98 66 (no_letter c 98 n refl) (no_letter c 66 n refl) in
-    let r = neither c 114 82 (no_letter c 114 n refl) (no_letter c 82 n refl) in
-    ap (λ t. zero_case t (is_either c 98 66) (is_either c 114 82) x (run_of (c ∷ x))) p
-    ∙ ap (λ t. zero_case false t (is_either c 114 82) x (run_of (c ∷ x))) q
-    ∙ ap (λ t. zero_case false false t x (run_of (c ∷ x))) r ∙ ap (zero_case false false false x) h
-
-pub zero_read : (w : List Frame) (x y : List ℕ) → run_of x ≡ [] → y ≡ x
-    → values_from zero (place w None) (digit_zero ∷ x) ≡ values_from zero (with_signs w (Some (pos 0))) y
-zero_read w x y h e =
-    sym (literal_read w digit_zero 0 x y (pos 0) (omega arith) (omega arith)
-    (ap (λ z. Some (z, 0)) (small 0 (omega arith)) ∙ ap (option_map in_bits) (sym (after_zero_alone x h))) e)
 
 -- the same with white space around the literal
 pub operand_read : (w : List Frame) (text begin : List ℕ) (b : ℕ) (x y rest : List ℕ) (z : ℤ)

@@ -163,7 +163,13 @@ marked_whole : (radix n mark : ℕ) (prefix digits rest : List ℕ) → radix �
     → prefix ≡ digit_zero ∷ mark ∷ []
     → ReadWhole n (prefix ++ digits) rest
 marked_whole radix n mark prefix digits rest l h e f p =
-    record { first = digit_zero; more = mark ∷ digits; split = ap (λ y. y ++ digits) p; digit = refl; read = f (digits ++ rest) ∙ marked radix n digits rest l h e }
+    record {
+      first = digit_zero;
+      more = mark ∷ digits;
+      split = ap (λ y. y ++ digits) p;
+      digit = refl;
+      read = f (digits ++ rest) ∙ marked radix n digits rest l h e;
+    }
 
 -- `0r`, a radix, `:` and digits
 said_whole : (radix n mark : ℕ) (prefix said digits rest : List ℕ) → AreDigits 10 radix said → 2 ≤ radix → radix ≤ 36
@@ -203,5 +209,7 @@ literal_whole n literal rest h e = subst (λ y. ReadWhole n y rest) (sym h.spell
     by_prefix (stated s) = by_mark s s.is_mark
       where
         by_mark : (s : SaysRadix h.radix h.prefix) → (s.mark ≡ codes "0r") ⊎ (s.mark ≡ codes "0R") → ReadWhole n (h.prefix ++ h.digits) rest
-        by_mark s (inl f) = said_whole h.radix n 114 h.prefix s.digits h.digits rest s.are_digits s.least s.most h.are_digits e (λ x. refl) (s.spelled ∙ ap (λ y. y ++ s.digits ++ colon ∷ []) f)
-        by_mark s (inr f) = said_whole h.radix n 82 h.prefix s.digits h.digits rest s.are_digits s.least s.most h.are_digits e (λ x. refl) (s.spelled ∙ ap (λ y. y ++ s.digits ++ colon ∷ []) f)
+        by_mark s (inl f) = said_whole h.radix n 114 h.prefix s.digits h.digits rest s.are_digits s.least s.most
+            h.are_digits e (λ x. refl) (s.spelled ∙ ap (λ y. y ++ s.digits ++ colon ∷ []) f)
+        by_mark s (inr f) = said_whole h.radix n 82 h.prefix s.digits h.digits rest s.are_digits s.least s.most
+            h.are_digits e (λ x. refl) (s.spelled ∙ ap (λ y. y ++ s.digits ++ colon ∷ []) f)

@@ -70,10 +70,6 @@ first_is radix b x l h k =
     ∙ ap (λ t. option_map bits_of (after_case radix 0 b x t)) (sym h)
     ∙ ap (option_map bits_of) (sym (number_is radix b x))
 
--- no digit first
-pub no_first : (radix b : ℕ) (x : List ℕ) → is_digit b radix ≡ false → number_of radix (b ∷ x) ≡ None
-no_first radix b x h = number_is radix b x ∙ ap (after_case radix 0 b x) h
-
 -- with its length
 pub with_length : (len : ℕ) (o : Option ℕ) → option_map in_bits (of_length len o) ≡ option_map (λ v. (v, len)) (option_map bits_of o)
 with_length len None = refl

@@ -238,7 +238,8 @@ letter_is c m n small capital h e f = go (or_cases (c == m) (c == n) h)
 zero_is : (x : List ℕ) (p : ℕ × ℕ) → after_zero x ≡ Some p → IsLiteralAt digit_zero x p
 zero_is [] p e = digit_is 8 digit_zero [] p e (λ digits. octal refl refl refl)
 zero_is (c ∷ x) p e =
-    test_case (is_either c 120 88) e (λ t e. marked_is 16 c x p e (λ digits. hexadecimal refl (letter_is c 120 88 (codes "0x") (codes "0X") t refl refl))) (λ _ e.
+    test_case (is_either c 120 88) e (λ t e. marked_is 16 c x p e
+    (λ digits. hexadecimal refl (letter_is c 120 88 (codes "0x") (codes "0X") t refl refl))) (λ _ e.
     test_case (is_either c 98 66) e (λ t e. marked_is 2 c x p e (λ digits. binary refl (letter_is c 98 66 (codes "0b") (codes "0B") t refl refl))) (λ _ e.
     test_case (is_either c 114 82) e (λ t e. stated_is c x p (letter_is c 114 82 (codes "0r") (codes "0R") t refl refl) e) (λ _ e.
     digit_is 8 digit_zero (c ∷ x) p e (λ digits. octal refl refl refl))))

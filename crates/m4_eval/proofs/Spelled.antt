@@ -219,13 +219,21 @@ pub begins : (e : Expression) (level : ℕ) (text : List ℕ) → SpellsAt level
 begins (Number n) level text s =
     subst Begins (sym s.4) (begins_spaces s.0 s.1 s.2 (literal_begins n s.1 s.3))
 begins (Group e) level text s =
-    let b : Begins (open_parenthesis ∷ s.1) = record { first = open_parenthesis; more = s.1; split = refl; no_second = record { equals = refl; less = refl; greater = refl; and = refl; or = refl } } in
-    subst Begins (sym s.6) (begins_more (s.0 ++ open_parenthesis ∷ s.1 ++ s.2) (close_parenthesis ∷ []) (begins_more (s.0 ++ open_parenthesis ∷ s.1) s.2 (begins_spaces s.0 (open_parenthesis ∷ s.1) s.3 b)))
+    let b : Begins (open_parenthesis ∷ s.1) =
+    record {
+      first = open_parenthesis;
+      more = s.1;
+      split = refl;
+      no_second = record { equals = refl; less = refl; greater = refl; and = refl; or = refl };
+    } in
+    subst Begins (sym s.6) (begins_more (s.0 ++ open_parenthesis ∷ s.1 ++ s.2) (close_parenthesis ∷ [])
+    (begins_more (s.0 ++ open_parenthesis ∷ s.1) s.2 (begins_spaces s.0 (open_parenthesis ∷ s.1) s.3 b)))
 begins (Signed g e) level text s =
     let b : Begins (byte_of g ∷ s.1) = record { first = byte_of g; more = s.1; split = refl; no_second = sign_is_no_second g } in
     subst Begins (sym s.4) (begins_spaces s.0 (byte_of g ∷ s.1) s.2 b)
 begins (Joined o d e) level text s =
-    subst Begins (sym s.7) (begins_more (s.0 ++ s.1 ++ symbol_of o) s.2 (begins_more (s.0 ++ s.1) (symbol_of o) (begins_more s.0 s.1 (begins d (level_of o) s.0 s.4))))
+    subst Begins (sym s.7) (begins_more (s.0 ++ s.1 ++ symbol_of o) s.2
+    (begins_more (s.0 ++ s.1) (symbol_of o) (begins_more s.0 s.1 (begins d (level_of o) s.0 s.4))))
 
 -- an operator before an operand, after one that is not looser than the open ones
 operator_read : (w : List Frame) (d : Expression) (o : Operator) (rest : List ℕ) → Begins rest → floor w ≤ level_of o

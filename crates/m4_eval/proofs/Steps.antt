@@ -1,7 +1,7 @@
 -- How a text is read: byte by byte, after white space and after a token.
 use Rattle.std.proofs.Common.{◌≡◌, ℕ, zero, suc, ◌≤◌, ◌<◌, Bool, true, false, List, [], ◌∷◌, ◌++◌, length, Option}
 use Rattle.std.proofs.Common.{Some, option_and_then, refl, ap, ◌∙◌, arith, le-leb}
-use Rattle.std.specs.Prelude.{nat_le, ⊤}
+use Rattle.std.specs.Prelude.{⊤}
 use Rattle.std.proofs.lemmas.Bool.{and_parts, lt-leb}
 use Rattle.std.specs.List.{list_all}
 use Rattle.m4_input.specs.Ascii.{is_space}
@@ -47,11 +47,6 @@ pub at_token : (r after : Reading) (b : ℕ) (more rest : List ℕ) → is_space
 at_token r after b more rest h e =
     at_byte r b (more ++ rest) h
     ∙ ap (option_and_then (λ p. read_from p.1 p.0 (more ++ rest))) e ∙ skipped more after rest
-
--- every operator has a level
-pub is_level : (o : Operator) → nat_le 1 (level_of o) ≡ true
-is_level Multiply = refl
-is_level _ = refl
 
 pub level_most : (o : Operator) → level_of o < operand_level
 level_most Multiply = omega arith

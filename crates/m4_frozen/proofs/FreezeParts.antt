@@ -14,7 +14,8 @@ use Rattle.m4_state.specs.Table.{Pairs}
 use Rattle.m4_frozen.specs.Ascii.{letter_C, letter_Q}
 use Rattle.m4_frozen.specs.Directive.{Directive, Quotes, Comments, Diversion}
 use Rattle.m4_frozen.specs.WriterSteps.{delimiters_text, stack_text, names_text, texts_text, current_text, directives_text, frozen_text}
-use Rattle.m4_frozen.specs.Freeze.{last_number, same_delimiters, unless_default, definition, definitions, diversion, current_unless_last, two_strings, spelling, header, end_line, freeze}
+use Rattle.m4_frozen.specs.Freeze.{last_number, same_delimiters, unless_default, definition, definitions, diversion}
+use Rattle.m4_frozen.specs.Freeze.{current_unless_last, two_strings, spelling, header, end_line, freeze}
 
 -- the last number is one of 32 bits
 pub last_fits : (n : ℤ) (ds : List NumberedText) → FitsSigned w32 n → AllByRecursion IsDiversion ds → FitsSigned w32 (last_number n ds)
@@ -36,7 +37,9 @@ names_text-definitions (e ∷ es) =
     ∙ ap (λ (t : List ℕ). flat_map spelling (map (definition e.0) e.1) ++ t) (names_text-definitions es)
     ∙ sym (flat_map-append spelling (map (definition e.0) e.1) (flat_map (λ e. map (definition e.0) e.1) es))
 
-delimiters_text-unless : (letter : ℕ) (make : List ℕ → List ℕ → Directive) (default d : Delimiters) → spelling (make d.begin d.end) ≡ two_strings letter d.begin d.end → delimiters_text letter default d ≡ flat_map spelling (unless_default make default d)
+delimiters_text-unless : (letter : ℕ) (make : List ℕ → List ℕ → Directive) (default d : Delimiters)
+    → spelling (make d.begin d.end) ≡ two_strings letter d.begin d.end
+    → delimiters_text letter default d ≡ flat_map spelling (unless_default make default d)
 delimiters_text-unless letter make default d is = by (same_delimiters d default)
   where
     by : (b : Bool) → cond b [] (two_strings letter d.begin d.end) ≡ flat_map spelling (cond b [] (make d.begin d.end ∷ []))
@@ -63,7 +66,12 @@ frozen_text-freeze s =
     let names = names_text-definitions s.table in
     let texts = texts_text-map s.diversions in
     let current = current_text-unless s in
-    rw (quotes, comments, names, texts, current) (by (unless_default Quotes default_quotes s.quotes) (unless_default Comments default_comments s.comments) (definitions s) (map diversion s.diversions) (current_unless_last s))
+    rw (quotes, comments, names, texts, current)
+    (by (unless_default Quotes default_quotes s.quotes) (unless_default Comments default_comments s.comments)
+    (definitions s) (map diversion s.diversions) (current_unless_last s))
   where
-    by : (q c d t n : List Directive) → header ++ (((flat_map spelling q ++ flat_map spelling c) ++ (flat_map spelling d ++ (flat_map spelling t ++ flat_map spelling n))) ++ end_line) ≡ header ++ flat_map spelling (q ++ c ++ d ++ t ++ n) ++ end_line
+    by : (q c d t n : List Directive) → header
+        ++ (((flat_map spelling q ++ flat_map spelling c)
+        ++ (flat_map spelling d ++ (flat_map spelling t ++ flat_map spelling n))) ++ end_line)
+        ≡ header ++ flat_map spelling (q ++ c ++ d ++ t ++ n) ++ end_line
     by q c d t n = simp (flat_map-append {X = Directive} {A = ℕ} spelling, append_assoc) refl

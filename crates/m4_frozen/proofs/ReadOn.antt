@@ -478,13 +478,15 @@ pub place_in : (block all bytes rest strings : List ℕ) (middle len : ℕ) (old
     → IsTextAt middle len strings rest → strings ≡ drop (length all - length strings) block
 place_in block all bytes rest strings middle len old l whole e a t =
     let before = end_after block bytes rest old l e a in
-    let parts : block ≡ (before.0 ++ t.line) ++ strings = before.1 ∙ ap (λ (x : List ℕ). before.0 ++ x) t.spelled ∙ sym (append_assoc before.0 t.line strings) in
+    let parts : block ≡ (before.0 ++ t.line) ++ strings = before.1 ∙ ap (λ (x : List ℕ). before.0 ++ x) t.spelled
+    ∙ sym (append_assoc before.0 t.line strings) in
     let size : length all - length strings ≡ length (before.0 ++ t.line) =
     omega (arith, ap (λ (x : List ℕ). length x) (whole ∙ parts), length-append (before.0 ++ t.line) strings) in
     sym (ap (drop (length all - length strings)) parts ∙ drop_at (before.0 ++ t.line) strings (length all - length strings) (sym size))
 
 -- the directive of a text was read after others
-pub advanced_text : (bytes rest strings : List ℕ) (middle len : ℕ) (old l new : Loading) → IsAtDirective old.inside bytes → l.inside ≡ old.inside → l.versioned ≡ true
+pub advanced_text : (bytes rest strings : List ℕ) (middle len : ℕ) (old l new : Loading)
+    → IsAtDirective old.inside bytes → l.inside ≡ old.inside → l.versioned ≡ true
     → HasAdvanced bytes old l rest → IsTextAt middle len strings rest
     → new ≡ record l { state = with_directive l.state (Text (take middle strings) (take len (drop middle strings))) }
     → HasAdvanced bytes old new (drop (middle + len + 1) strings)

@@ -40,7 +40,8 @@ module _ (lacking : Builtin) where
 
   each : (name : List ℕ) (stack : List Def) → map (definition name) (map (kept_by_older lacking) stack) ≡ map (definition name) stack
   each name [] = refl
-  each name (d ∷ stack) = ap (λ (x : Directive). x ∷ map (definition name) (map (kept_by_older lacking) stack)) (one name d) ∙ ap (λ (l : List Directive). definition name d ∷ l) (each name stack)
+  each name (d ∷ stack) = ap (λ (x : Directive). x ∷ map (definition name) (map (kept_by_older lacking) stack))
+      (one name d) ∙ ap (λ (l : List Directive). definition name d ∷ l) (each name stack)
 
   all : (table : Pairs) → table_written (map (λ e. (e.0, map (kept_by_older lacking) e.1)) table) ≡ table_written table
   all [] = refl

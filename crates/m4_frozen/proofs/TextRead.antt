@@ -68,7 +68,11 @@ with_text-twice n (x ∷ a) (y ∷ b) ds =
 appended-twice : (s : State) (a b : List ℕ) → appended (appended s a) b ≡ appended s (a ++ b)
 appended-twice s a b = by (holds_text s.current)
   where
-    by : (h : Bool) → record s { diversions = cond h (with_text (cond h (with_text s.diversions s.current a) s.diversions) s.current b) (cond h (with_text s.diversions s.current a) s.diversions) }
+    by : (h : Bool) → record s {
+      diversions =
+          cond h (with_text (cond h (with_text s.diversions s.current a) s.diversions) s.current b)
+          (cond h (with_text s.diversions s.current a) s.diversions);
+    }
         ≡ record s { diversions = cond h (with_text s.diversions s.current (a ++ b)) s.diversions }
     by true = ap (λ (ds : List NumberedText). record s { diversions = ds }) (with_text-twice s.current a b s.diversions)
     by false = refl

@@ -24,7 +24,8 @@ marked_fault [] m = empty_file
 marked_fault (b ∷ bs) m =
     subst (λ (x : ℕ). FaultAt (x ∷ bs) (record { kind = kinds.NoVersion; offset = 0 })) (sym (eqb-true b 0 m)) (zero_fault bs)
 
-refused_at_once : (bytes : List ℕ) → FaultAt bytes (record { kind = kinds.NoVersion; offset = 0 }) → IsOnlyRead bytes ⊎ IsOnlyRefused bytes → IsRefusedAtOnce bytes
+refused_at_once : (bytes : List ℕ) → FaultAt bytes (record { kind = kinds.NoVersion; offset = 0 })
+    → IsOnlyRead bytes ⊎ IsOnlyRefused bytes → IsRefusedAtOnce bytes
 refused_at_once bytes f (inl r) = absurd (r.no_fault _ f)
 refused_at_once bytes f (inr r) = record { refused = r; at_once = sym (r.only _ f) }
 

@@ -40,7 +40,9 @@ no_bytes [] e = refl
 no_bytes (b ∷ x) e = let n : 0 < length (b ∷ x) = omega arith in absurd (grind (arith, nat_tests))
 
 -- a question more: what all of them gave
-pub block_read : (s a b : Option Script) (old h new : Held) (x : List ℕ) (came : Bool) → HasRead s a old h x → BlockGives a b h new (Ok came) → (y : List ℕ) × Reads s b old.pending y new.pending × ((new.pending).may_follow ≡ came) × (new.fault ≡ None)
+pub block_read : (s a b : Option Script) (old h new : Held) (x : List ℕ) (came : Bool) → HasRead s a old h x
+    → BlockGives a b h new (Ok came)
+    → (y : List ℕ) × Reads s b old.pending y new.pending × ((new.pending).may_follow ≡ came) × (new.fault ≡ None)
 block_read s a b old h new x came r g =
     let y : List ℕ = g.0 in
     let was : (old.pending).may_follow ≡ true = r.reads.still r.may in
@@ -61,13 +63,15 @@ block_read s a b old h new x came r g =
       ap (λ (k : Held). k.fault) g.5 ∙ r.sound,
     )
 
-pub block_follows : (s a b : Option Script) (old h new : Held) (x : List ℕ) → HasRead s a old h x → BlockGives a b h new (Ok true) → (y : List ℕ) × HasRead s b old new y
+pub block_follows : (s a b : Option Script) (old h new : Held) (x : List ℕ) → HasRead s a old h x
+    → BlockGives a b h new (Ok true) → (y : List ℕ) × HasRead s b old new y
 block_follows s a b old h new x r g =
     let k = block_read s a b old h new x true r g in
     (k.0, record { reads = k.1; may = k.2; first = r.first; sound = k.3 })
 
 -- a question that failed
-stops_so : (s a b : Option Script) (old h new : Held) (x : List ℕ) (f : InputFault) → HasRead s a old h x → b ≡ a → new ≡ record h { fault = Some f } → Reads s b old.pending x new.pending × (new.fault ≡ Some f)
+stops_so : (s a b : Option Script) (old h new : Held) (x : List ℕ) (f : InputFault) → HasRead s a old h x → b ≡ a
+    → new ≡ record h { fault = Some f } → Reads s b old.pending x new.pending × (new.fault ≡ Some f)
 stops_so s a b old h new x f r e n = (
   subst (λ (c : Option Script). Reads s c old.pending x new.pending) (sym e)
       (subst (λ (p : Pending). Reads s a old.pending x p) (sym (ap (λ (k : Held). k.pending) n)) r.reads),
@@ -86,7 +90,8 @@ pub none_asked : (wants : Pending → Type 0) (s : Option Script) (h : Held) →
 none_asked wants s h f = record { reads = reads_nothing s h.pending; may = refl; first = f; sound = f; asks = asks_nothing wants h.pending }
 
 module _ (wants : Pending → Type 0) where
-  wanted : (s a : Option Script) (old h : Held) (x : List ℕ) (p : Pending) → HasAsked wants s a old h x p → p.may_follow ≡ true → wants p → wants (longer x true old.pending)
+  wanted : (s a : Option Script) (old h : Held) (x : List ℕ) (p : Pending) → HasAsked wants s a old h x p
+      → p.may_follow ≡ true → wants p → wants (longer x true old.pending)
   wanted s a old h x p r m w = subst wants (r.reads.in_hand ∙ ap (λ (v : Bool). longer x v old.pending) m) w
 
   pub asked_more : (s a b : Option Script) (old h new : Held) (x : List ℕ) (p : Pending) (came : Bool)
@@ -114,7 +119,8 @@ module _ (wants : Pending → Type 0) where
           sound = ap (λ (k : Held). k.fault) g.5 ∙ r.sound;
           asks = record {
             blocks = inr (record { front = x; last = y; parts = refl; within = g.2; undecided = there });
-            end = λ e f. subst (λ (z : List ℕ). wants (longer z true old.pending)) (sym (ap (λ (z : List ℕ). x ++ z) (no_bytes y (sym g.3 ∙ f)) ∙ append-nil x)) there;
+            end = λ e f. subst (λ (z : List ℕ). wants (longer z true old.pending))
+                (sym (ap (λ (z : List ℕ). x ++ z) (no_bytes y (sym g.3 ∙ f)) ∙ append-nil x)) there;
           };
         },
         now,
@@ -137,7 +143,9 @@ module _ (wants : Pending → Type 0) where
     ap (λ (k : Held). k.pending) n,
   )
 
-  pub asked_stops : (s a b : Option Script) (old h new : Held) (x : List ℕ) (p : Pending) (f : InputFault) → HasAsked wants s a old h x p → p.may_follow ≡ true → wants p → BlockGives a b h new (Err f) → Stopped f s b old new x p × StopAsks wants f old x p × (new.pending ≡ h.pending)
+  pub asked_stops : (s a b : Option Script) (old h new : Held) (x : List ℕ) (p : Pending) (f : InputFault)
+      → HasAsked wants s a old h x p → p.may_follow ≡ true → wants p → BlockGives a b h new (Err f)
+      → Stopped f s b old new x p × StopAsks wants f old x p × (new.pending ≡ h.pending)
   asked_stops s a b old h new x p (faults.EndInString line) r m w g = absurd g
   asked_stops s a b old h new x p (faults.EndInComment line) r m w g = absurd g
   asked_stops s a b old h new x p faults.Read r m w g = stopped_at faults.Read s a b old h new x p tt r g.0 g.2 (λ e. (g.1, wanted s a old h x p r m w))
@@ -153,15 +161,24 @@ pub none_skipped : (s : Option Script) (h : Held) → h.fault ≡ None → HasSk
 none_skipped s h f = record { asked = none_asked wants_line s h f; line = refl; rest = refl }
 
 -- all that is in hand is dropped
-dropped : (s a : Option Script) (old h k : Held) (x : List ℕ) (p : Pending) → HasSkipped s a old h x p → LineGives h k false → HasAsked wants_line s a old k x p × wants_line p × (k.pending ≡ all_read p)
+dropped : (s a : Option Script) (old h k : Held) (x : List ℕ) (p : Pending) → HasSkipped s a old h x p
+    → LineGives h k false → HasAsked wants_line s a old k x p × wants_line p × (k.pending ≡ all_read p)
 dropped s a old h k x p r g =
     let now : k.pending ≡ all_read h.pending = ap (λ (i : Held). i.pending) g.1 in (
-      record { reads = r.asked.reads; may = r.asked.may ∙ sym (ap (λ (q : Pending). q.may_follow) now); first = r.asked.first; sound = ap (λ (i : Held). i.fault) g.1 ∙ r.asked.sound; asks = r.asked.asks },
+      record {
+        reads = r.asked.reads;
+        may = r.asked.may ∙ sym (ap (λ (q : Pending). q.may_follow) now);
+        first = r.asked.first;
+        sound = ap (λ (i : Held). i.fault) g.1 ∙ r.asked.sound;
+        asks = r.asked.asks;
+      },
       r.line ∙ g.0,
       now ∙ sym r.rest,
     )
 
-pub skipped_more : (s a b : Option Script) (old h k new : Held) (x : List ℕ) (p : Pending) (came : Bool) → HasSkipped s a old h x p → LineGives h k false → BlockGives a b k new (Ok came) → (y : List ℕ) × (q : Pending) × HasSkipped s b old new y q
+pub skipped_more : (s a b : Option Script) (old h k new : Held) (x : List ℕ) (p : Pending) (came : Bool)
+    → HasSkipped s a old h x p → LineGives h k false → BlockGives a b k new (Ok came)
+    → (y : List ℕ) × (q : Pending) × HasSkipped s b old new y q
 skipped_more s a b old h k new x p came r g n =
     let d = dropped s a old h k x p r g in
     let m = asked_more wants_line s a b old k new x p came d.0 (line_open p d.1) d.1 n in
@@ -191,13 +208,15 @@ pub came_is : (a b : Option Script) (h new : Held) (came : Bool) → BlockGives 
 came_is a b h new came g = ap (λ (k : Held). (k.pending).may_follow) g.5
 
 -- the bytes that a question adds
-pub block_length : (a b : Option Script) (h new : Held) (came : Bool) → (g : BlockGives a b h new (Ok came)) → length (text_of new.pending) ≡ length (text_of h.pending) + length g.0
+pub block_length : (a b : Option Script) (h new : Held) (came : Bool) → (g : BlockGives a b h new (Ok came))
+    → length (text_of new.pending) ≡ length (text_of h.pending) + length g.0
 block_length a b h new came g =
     let p : Pending = h.pending in
     ap (λ (k : Held). length (text_of k.pending)) g.5 ∙ ap length (sym (append_assoc p.pushed p.unread g.0)) ∙ length-append (p.pushed ++ p.unread) g.0
 
 -- an input that stopped before
-pub stopped_before : (wants : Pending → Type 0) (s : Option Script) (h : Held) (f : InputFault) → h.fault ≡ Some f → IsLasting f → Stopped f s s h h [] h.pending × StopAsks wants f h [] h.pending
+pub stopped_before : (wants : Pending → Type 0) (s : Option Script) (h : Held) (f : InputFault) → h.fault ≡ Some f
+    → IsLasting f → Stopped f s s h h [] h.pending × StopAsks wants f h [] h.pending
 stopped_before wants s h f e l = (
   record {
     lasting = l;
@@ -210,7 +229,9 @@ stopped_before wants s h f e l = (
 )
 
 -- a look at the first token, and what follows it
-module _ (q c : Delimiters) (s a : Option Script) (old h : Held) (x : List ℕ) (found : Scan) (r : HasAsked (wants_token q c) s a old h x h.pending) (plain : (h.pending).definition ≡ None) (look : found ≡ scan q c (h.pending).may_follow (text_of h.pending)) where
+module _ (q c : Delimiters) (s a : Option Script) (old h : Held) (x : List ℕ) (found : Scan)
+    (r : HasAsked (wants_token q c) s a old h x h.pending) (plain : (h.pending).definition ≡ None)
+    (look : found ≡ scan q c (h.pending).may_follow (text_of h.pending)) where
   pub token_open : found ≡ NeedsMore → (h.pending).may_follow ≡ true
   token_open e = scan_open q c (h.pending).may_follow (text_of h.pending) (sym look ∙ e)
 
@@ -228,11 +249,33 @@ module _ (q c : Delimiters) (s a : Option Script) (old h : Held) (x : List ℕ) 
     r.asks,
   )
 
-  pub token_broken : (new : Held) (what : Unended) → found ≡ Broken what → new ≡ record h { pending = all_read h.pending } → NextGives q c s a old new (Err (fault_of what (line_of h.pending)))
-  token_broken new InString e g = (x, h.pending, record { reads = r.reads; sound = (r.first, ap (λ (i : Held). i.fault) g ∙ r.sound); front = ap (λ (o : Option Def). front_from o q c h.pending) plain ∙ ap (front_by h.pending) (sym look ∙ e); nothing = ap (λ (i : Held). i.pending) g }, r.asks)
-  token_broken new InComment e g = (x, h.pending, record { reads = r.reads; sound = (r.first, ap (λ (i : Held). i.fault) g ∙ r.sound); front = ap (λ (o : Option Def). front_from o q c h.pending) plain ∙ ap (front_by h.pending) (sym look ∙ e); nothing = ap (λ (i : Held). i.pending) g }, r.asks)
+  pub token_broken : (new : Held) (what : Unended) → found ≡ Broken what
+      → new ≡ record h { pending = all_read h.pending } → NextGives q c s a old new (Err (fault_of what (line_of h.pending)))
+  token_broken new InString e g = (
+    x,
+    h.pending,
+    record {
+      reads = r.reads;
+      sound = (r.first, ap (λ (i : Held). i.fault) g ∙ r.sound);
+      front = ap (λ (o : Option Def). front_from o q c h.pending) plain ∙ ap (front_by h.pending) (sym look ∙ e);
+      nothing = ap (λ (i : Held). i.pending) g;
+    },
+    r.asks,
+  )
+  token_broken new InComment e g = (
+    x,
+    h.pending,
+    record {
+      reads = r.reads;
+      sound = (r.first, ap (λ (i : Held). i.fault) g ∙ r.sound);
+      front = ap (λ (o : Option Def). front_from o q c h.pending) plain ∙ ap (front_by h.pending) (sym look ∙ e);
+      nothing = ap (λ (i : Held). i.pending) g;
+    },
+    r.asks,
+  )
 
-  pub token_more : (b : Option Script) (new : Held) (came : Bool) → found ≡ NeedsMore → BlockGives a b h new (Ok came) → (z : List ℕ) × HasAsked (wants_token q c) s b old new z new.pending × ((new.pending).definition ≡ None)
+  pub token_more : (b : Option Script) (new : Held) (came : Bool) → found ≡ NeedsMore → BlockGives a b h new (Ok came)
+      → (z : List ℕ) × HasAsked (wants_token q c) s b old new z new.pending × ((new.pending).definition ≡ None)
   token_more b new came e g =
       let m = asked_more (wants_token q c) s a b old h new x h.pending came r (token_open e) (token_wanted e) g in (
         x ++ m.0,
@@ -240,7 +283,8 @@ module _ (q c : Delimiters) (s a : Option Script) (old h : Held) (x : List ℕ) 
         ap (λ (p : Pending). p.definition) m.2 ∙ plain,
       )
 
-  stopped_there : (b : Option Script) (new : Held) (f : InputFault) → found ≡ NeedsMore → BlockGives a b h new (Err f) → Stopped f s b old new x new.pending × StopAsks (wants_token q c) f old x new.pending
+  stopped_there : (b : Option Script) (new : Held) (f : InputFault) → found ≡ NeedsMore → BlockGives a b h new (Err f)
+      → Stopped f s b old new x new.pending × StopAsks (wants_token q c) f old x new.pending
   stopped_there b new f e g =
       let m = asked_stops (wants_token q c) s a b old h new x h.pending f r (token_open e) (token_wanted e) g in
       subst (λ (p : Pending). Stopped f s b old new x p × StopAsks (wants_token q c) f old x p) (sym m.2) (m.0, m.1)

@@ -27,7 +27,8 @@ module _ (b : ℕ) where
   at_place : (x : List ℕ) (k : ℕ) → k < length x → ((i : ℕ) → i < k → is_here x i → ⊥) → is_here x k → before (b ∷ []) x ≡ Some k
   at_place [] k l h e = absurd (omega arith)
   at_place (a ∷ x) zero l h e = before_here a x (eqb-true a b e)
-  at_place (a ∷ x) (suc k) l h e = before_later a x (not_first a x (h 0 (omega arith))) ∙ ap one_more (at_place x k (omega arith) (λ i s. h (suc i) (omega arith)) e)
+  at_place (a ∷ x) (suc k) l h e = before_later a x (not_first a x (h 0 (omega arith)))
+      ∙ ap one_more (at_place x k (omega arith) (λ i s. h (suc i) (omega arith)) e)
 
   pub first_before : (x : List ℕ) (r : Option ℕ) → IsFirstByte (is_byte b) x r → r ≡ before (b ∷ []) x
   first_before x None h = sym (nowhere x (λ i l. h i (omega arith) l))

@@ -27,6 +27,17 @@ pub asks_nothing : (wants : Pending → Type 0) (p : Pending) → Asks wants p [
 asks_nothing wants p = record { blocks = inl refl; end = λ e f. (let no : true ≡ false = sym e ∙ f in cc) }
 
 -- the definition in front is taken
-pub definition_taken : (q c : Delimiters) (s : Option Script) (old new : Held) (d : Def) → (old.pending).definition ≡ Some d → new ≡ record old { pending = record old.pending { definition = None } } → old.fault ≡ None → NextGives q c s s old new (Ok (Definition d))
-definition_taken q c s old new d e f g =
-    ([], old.pending, reads_nothing s old.pending, ap (λ o. front_from o q c old.pending) e ∙ ap (λ (h : Held). Taken (Definition d) h.pending) (sym f), g, ap (λ (h : Held). h.fault) f ∙ g, asks_nothing (wants_token q c) old.pending)
+pub definition_taken : (q c : Delimiters) (s : Option Script) (old new : Held) (d : Def)
+    → (old.pending).definition ≡ Some d → new ≡ record old { pending = record old.pending { definition = None } }
+    → old.fault ≡ None → NextGives q c s s old new (Ok (Definition d))
+definition_taken q c s old new d e f g = (
+  [],
+  old.pending,
+  reads_nothing s old.pending,
+  ap (λ o. front_from o q c old.pending) e
+      ∙ ap (λ (h : Held). Taken (Definition d) h.pending) (sym f),
+  g,
+  ap (λ (h : Held). h.fault) f
+      ∙ g,
+  asks_nothing (wants_token q c) old.pending,
+)

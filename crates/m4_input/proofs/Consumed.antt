@@ -22,7 +22,8 @@ use Rattle.m4_input.specs.Token.{string_found, kind_by, kind_of, scan_kind, scan
 
 pub text-consumed : (n : ℕ) (p : Pending) → length (text_of (consumed n p)) ≡ length (text_of p) - n
 text-consumed n p =
-    let a : length (text_of (consumed n p)) ≡ length (drop n p.pushed) + length (drop (n - length p.pushed) p.unread) = length-append (drop n p.pushed) (drop (n - length p.pushed) p.unread) in
+    let a : length (text_of (consumed n p)) ≡ length (drop n p.pushed) + length (drop (n - length p.pushed) p.unread) =
+    length-append (drop n p.pushed) (drop (n - length p.pushed) p.unread) in
     let b : length (text_of p) ≡ length p.pushed + length p.unread = length-append p.pushed p.unread in
     let c : length (drop n p.pushed) ≡ length p.pushed - n = length-drop n p.pushed in
     let d : length (drop (n - length p.pushed) p.unread) ≡ length p.unread - (n - length p.pushed) = length-drop (n - length p.pushed) p.unread in
@@ -35,10 +36,23 @@ text_longer z b p = sym (append_assoc p.pushed p.unread z)
 pub consumed_longer : (z : List ℕ) (b : Bool) (n : ℕ) (p : Pending) → n ≤ length (text_of p) → consumed n (longer z b p) ≡ longer z b (consumed n p)
 consumed_longer z b n p h =
     let a : length (text_of p) ≡ length p.pushed + length p.unread = length-append p.pushed p.unread in
-    let d : drop (n - length p.pushed) (p.unread ++ z) ≡ drop (n - length p.pushed) p.unread ++ z = drop-append-le (n - length p.pushed) p.unread z (omega arith) in
+    let d : drop (n - length p.pushed) (p.unread ++ z) ≡ drop (n - length p.pushed) p.unread ++ z =
+    drop-append-le (n - length p.pushed) p.unread z (omega arith) in
     let t : take (n - length p.pushed) (p.unread ++ z) ≡ take (n - length p.pushed) p.unread = take-append-le (n - length p.pushed) p.unread z (omega arith) in
-    ap (λ (x : List ℕ). record p { definition = None; pushed = drop n p.pushed; unread = x; may_follow = b; newlines = counted p.newlines (newlines_in (take (n - length p.pushed) (p.unread ++ z))) }) d
-    ∙ ap (λ (x : List ℕ). record p { definition = None; pushed = drop n p.pushed; unread = drop (n - length p.pushed) p.unread ++ z; may_follow = b; newlines = counted p.newlines (newlines_in x) }) t
+    ap (λ (x : List ℕ). record p {
+      definition = None;
+      pushed = drop n p.pushed;
+      unread = x;
+      may_follow = b;
+      newlines = counted p.newlines (newlines_in (take (n - length p.pushed) (p.unread ++ z)));
+    }) d
+    ∙ ap (λ (x : List ℕ). record p {
+      definition = None;
+      pushed = drop n p.pushed;
+      unread = drop (n - length p.pushed) p.unread ++ z;
+      may_follow = b;
+      newlines = counted p.newlines (newlines_in x);
+    }) t
 
 -- in two steps
 pub consumed_twice : (n k : ℕ) (p : Pending) → consumed k (consumed n p) ≡ consumed (n + k) p
@@ -47,13 +61,32 @@ consumed_twice n k p =
     let b = k - length (drop n p.pushed) in
     let long : length (drop n p.pushed) ≡ length p.pushed - n = length-drop n p.pushed in
     let both : a + b ≡ (n + k) - length p.pushed = omega arith in
-    let further : newlines_in (take (a + b) p.unread) ≡ newlines_in (take a p.unread) + newlines_in (take b (drop a p.unread)) = newlines_further p.unread a b in
-    let count : counted (counted p.newlines (newlines_in (take a p.unread))) (newlines_in (take b (drop a p.unread))) ≡ counted p.newlines (newlines_in (take (a + b) p.unread)) =
+    let further : newlines_in (take (a + b) p.unread)
+    ≡ newlines_in (take a p.unread) + newlines_in (take b (drop a p.unread)) = newlines_further p.unread a b in
+    let count : counted (counted p.newlines (newlines_in (take a p.unread))) (newlines_in (take b (drop a p.unread)))
+    ≡ counted p.newlines (newlines_in (take (a + b) p.unread)) =
     counted_twice p.newlines (newlines_in (take a p.unread)) (newlines_in (take b (drop a p.unread))) ∙ ap (counted p.newlines) (sym further) in
-    ap (λ (x : List ℕ). let q : Pending = record p { definition = None; pushed = x; unread = drop b (drop a p.unread); newlines = counted (counted p.newlines (newlines_in (take a p.unread))) (newlines_in (take b (drop a p.unread))) } in q) (drop-drop k n p.pushed)
-    ∙ ap (λ (x : List ℕ). let q : Pending = record p { definition = None; pushed = drop (n + k) p.pushed; unread = x; newlines = counted (counted p.newlines (newlines_in (take a p.unread))) (newlines_in (take b (drop a p.unread))) } in q) (drop-drop b a p.unread)
+    ap (λ (x : List ℕ). let q : Pending =
+    record p {
+      definition = None;
+      pushed = x;
+      unread = drop b (drop a p.unread);
+      newlines = counted (counted p.newlines (newlines_in (take a p.unread))) (newlines_in (take b (drop a p.unread)));
+    } in q) (drop-drop k n p.pushed)
+    ∙ ap (λ (x : List ℕ). let q : Pending =
+    record p {
+      definition = None;
+      pushed = drop (n + k) p.pushed;
+      unread = x;
+      newlines = counted (counted p.newlines (newlines_in (take a p.unread))) (newlines_in (take b (drop a p.unread)));
+    } in q) (drop-drop b a p.unread)
     ∙ ap (λ m. let q : Pending = record p { definition = None; pushed = drop (n + k) p.pushed; unread = drop (a + b) p.unread; newlines = m } in q) count
-    ∙ ap (λ m. let q : Pending = record p { definition = None; pushed = drop (n + k) p.pushed; unread = drop m p.unread; newlines = counted p.newlines (newlines_in (take m p.unread)) } in q) both
+    ∙ ap (λ m. let q : Pending = record p {
+      definition = None;
+      pushed = drop (n + k) p.pushed;
+      unread = drop m p.unread;
+      newlines = counted p.newlines (newlines_in (take m p.unread));
+    } in q) both
 
 -- a text that isn't empty gives a token of reading least a byte, but for the end
 unfoldable pub HasBytes : Scan → Type 0
@@ -120,7 +153,8 @@ FrontSays q c b StringHere = 0 < length q.begin
 FrontSays q c b ByteHere = Unit {0}
 FrontSays q c b Undecided = Unit {0}
 
-front_says : (q c : Delimiters) (b : ℕ) (t u v w x : Bool) → (t ≡ true → 0 < length c.begin) → (v ≡ true → is_letter b ≡ true) → (w ≡ true → 0 < length q.begin) → FrontSays q c b (kind_by t u v w x)
+front_says : (q c : Delimiters) (b : ℕ) (t u v w x : Bool) → (t ≡ true → 0 < length c.begin)
+    → (v ≡ true → is_letter b ≡ true) → (w ≡ true → 0 < length q.begin) → FrontSays q c b (kind_by t u v w x)
 unfolding FrontSays
 front_says q c b true u v w x f g h = f refl
 front_says q c b false true v w x f g h = tt
@@ -133,7 +167,8 @@ scan_front_bytes : (f : Kind) (q c : Delimiters) (may_follow : Bool) (b : ℕ) (
 unfolding FrontSays
 scan_front_bytes CommentHere q c may_follow b y h = comment_bytes c may_follow (b ∷ y) h (before c.end (drop (length c.begin) (b ∷ y)))
 scan_front_bytes NameHere q c may_follow b y h = name_bytes _ (run_length is_name_byte (b ∷ y)) (b ∷ y) (run_starts b y h)
-scan_front_bytes StringHere q c may_follow b y h = string_bytes q may_follow (drop (length q.begin) (b ∷ y)) h (level q may_follow 0 0 (drop (length q.begin) (b ∷ y)))
+scan_front_bytes StringHere q c may_follow b y h =
+    string_bytes q may_follow (drop (length q.begin) (b ∷ y)) h (level q may_follow 0 0 (drop (length q.begin) (b ∷ y)))
 scan_front_bytes ByteHere q c may_follow b y h = found_bytes (Byte b) 1 (omega arith)
 scan_front_bytes Undecided q c may_follow b y h = needs_bytes
 

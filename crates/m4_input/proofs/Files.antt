@@ -25,18 +25,24 @@ after_both n k w =
 
 pub no_newlines_between : (n k : ℕ) (w : List ℕ) → newlines_in (take n w) ≡ 0 → newlines_in (take (n - k) (drop k w)) ≡ 0
 no_newlines_between n k w none =
-    let all : newlines_in (take k (take n w)) + newlines_in (drop k (take n w)) ≡ newlines_in (take n w) = sum_by-take-drop (λ b. cond (b == newline) 1 0) (take n w) k in
+    let all : newlines_in (take k (take n w)) + newlines_in (drop k (take n w)) ≡ newlines_in (take n w) =
+    sum_by-take-drop (λ b. cond (b == newline) 1 0) (take n w) k in
     let some : newlines_in (drop k (take n w)) ≡ newlines_in (take (n - k) (drop k w)) = ap newlines_in (between k n w) in
     omega (arith, all, some, none)
 
 -- the first n bytes are consumed, of which those after the first k are the file's
-pub taken : (k n m c : ℕ) (w : List ℕ) → k ≤ length w → c ≡ counted m (newlines_in (take (n - k) (drop k w))) → split_at (k - n) (drop n w) c ≡ text_after n (split_at k w m)
+pub taken : (k n m c : ℕ) (w : List ℕ) → k ≤ length w → c ≡ counted m (newlines_in (take (n - k) (drop k w)))
+    → split_at (k - n) (drop n w) c ≡ text_after n (split_at k w m)
 taken k n m c w fits count =
     let i : n - k ≡ n - length (take k w) = ap (λ j. n - j) (sym (length-take-le k w fits)) in
     ap (λ (x : List ℕ). let s : HeldText = record { pushed = x; unread = drop (k - n) (drop n w); newlines = c } in s) (sym (between n k w))
     ∙ ap (λ (x : List ℕ). let s : HeldText = record { pushed = drop n (take k w); unread = x; newlines = c } in s) (after_both n k w)
     ∙ ap (λ j. let s : HeldText = record { pushed = drop n (take k w); unread = drop (n - k) (drop k w); newlines = j } in s) count
-    ∙ ap (λ j. let s : HeldText = record { pushed = drop n (take k w); unread = drop j (drop k w); newlines = counted m (newlines_in (take j (drop k w))) } in s) i
+    ∙ ap (λ j. let s : HeldText = record {
+      pushed = drop n (take k w);
+      unread = drop j (drop k w);
+      newlines = counted m (newlines_in (take j (drop k w)));
+    } in s) i
 
 pub pushed_taken : (k n m : ℕ) (w : List ℕ) → n ≤ k → k ≤ length w → split_at (k - n) (drop n w) m ≡ text_after n (split_at k w m)
 pushed_taken k n m w h fits =

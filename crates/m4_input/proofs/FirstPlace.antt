@@ -20,7 +20,8 @@ begins_occurs (b ∷ p) (c ∷ x) is =
     let rest = begins_occurs p x both.1 in
     record { fits = omega (arith, rest.fits); reads = reads (sym (eqb-true b c both.0)) rest.reads }
   where
-    reads : c ≡ b → ((j : ℕ) → j < length p → slice_index x (0 + j) ≡ slice_index p j) → (j : ℕ) → j < suc (length p) → slice_index (c ∷ x) (0 + j) ≡ slice_index (b ∷ p) j
+    reads : c ≡ b → ((j : ℕ) → j < length p → slice_index x (0 + j) ≡ slice_index p j) → (j : ℕ) → j < suc (length p)
+        → slice_index (c ∷ x) (0 + j) ≡ slice_index (b ∷ p) j
     reads same rest zero lt = same
     reads same rest (suc j) lt = let further : 0 + suc j ≡ suc (0 + j) = omega arith in ap (slice_index (c ∷ x)) further ∙ rest j (omega arith)
 
@@ -30,7 +31,11 @@ occurs_begins [] x occurs = refl
 occurs_begins (b ∷ p) [] occurs = absurd (omega (arith, occurs.fits))
 occurs_begins (b ∷ p) (c ∷ x) occurs =
     and_from (b == c) (begins p x) (eq-eqb b c (sym (occurs.reads 0 (omega arith))))
-    (occurs_begins p x (record { fits = omega (arith, occurs.fits); reads = λ j lt. let further : suc (0 + j) ≡ 0 + suc j = omega arith in ap (slice_index (c ∷ x)) further ∙ occurs.reads (suc j) (omega arith) }))
+    (occurs_begins p x (record {
+      fits = omega (arith, occurs.fits);
+      reads = λ j lt. let further : suc (0 + j) ≡ 0 + suc j = omega arith in ap (slice_index (c ∷ x)) further
+          ∙ occurs.reads (suc j) (omega arith);
+    }))
 
 -- an occurrence in the rest, and back
 later : (p x : List ℕ) (b k : ℕ) → OccursAt x p k → OccursAt (b ∷ x) p (suc k)
@@ -58,7 +63,10 @@ first p [] k some occurs none = absurd (omega arith)
 first p (b ∷ x) zero some occurs none = ap (first_by (before p x)) (occurs_begins p (b ∷ x) occurs)
 first [] (b ∷ x) (suc k) some occurs none = absurd (none 0 (omega arith) (record { fits = omega arith; reads = λ j lt. absurd (omega arith) }))
 first (d ∷ p) (b ∷ []) (suc k) some occurs none = absurd (omega (arith, occurs.fits))
-first (d ∷ p) (b ∷ (c ∷ x)) (suc k) some occurs none = by (begins (d ∷ p) (b ∷ (c ∷ x))) refl (first (d ∷ p) (c ∷ x) k (omega arith) (earlier (d ∷ p) (c ∷ x) b k occurs) (λ j lt there. none (suc j) (omega arith) (later (d ∷ p) (c ∷ x) b j there)))
+first (d ∷ p) (b ∷ (c ∷ x)) (suc k) some occurs none =
+    by (begins (d ∷ p) (b ∷ (c ∷ x))) refl
+    (first (d ∷ p) (c ∷ x) k (omega arith) (earlier (d ∷ p) (c ∷ x) b k occurs)
+    (λ j lt there. none (suc j) (omega arith) (later (d ∷ p) (c ∷ x) b j there)))
   where
     by : (t : Bool) → begins (d ∷ p) (b ∷ (c ∷ x)) ≡ t → before (d ∷ p) (c ∷ x) ≡ Some k → first_by (before (d ∷ p) (c ∷ x)) t ≡ Some (suc k)
     by true is rest = absurd (none 0 (omega arith) (begins_occurs (d ∷ p) (b ∷ (c ∷ x)) is))

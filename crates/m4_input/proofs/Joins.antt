@@ -56,10 +56,12 @@ last_is below front i s l e =
     set_split below i s inside ∙ ap (λ (x : List (List ℕ)). take i below ++ s ∷ x) (drop_of_length-le below all)
     ∙ ap (λ (x : List (List ℕ)). x ++ s ∷ []) (sym (e ∙ take-set-le i below i s (omega arith)))
 
-pub last_below : (below front : List (List ℕ)) (i : ℕ) (s put d : List ℕ) → suc i ≡ length below → s ≡ get_or below i d → front ≡ take i (set below i put) → joined below ≡ s ++ joined front
+pub last_below : (below front : List (List ℕ)) (i : ℕ) (s put d : List ℕ) → suc i ≡ length below → s ≡ get_or below i d
+    → front ≡ take i (set below i put) → joined below ≡ s ++ joined front
 last_below below front i s put d l e f =
     let same : front ≡ take i (set below i s) = f ∙ take-set-le i below i put (omega arith) ∙ sym (take-set-le i below i s (omega arith)) in
     ap joined (sym (set-get_or below i d) ∙ ap (λ (x : List ℕ). set below i x) (sym e) ∙ last_is below front i s l same) ∙ joined_push front s
 
-pub last_put : (below front : List (List ℕ)) (i : ℕ) (put next : List ℕ) → suc i ≡ length below → set below i put ≡ front ++ next ∷ [] → front ≡ take i (set below i put) → next ++ joined front ≡ put ++ joined front
+pub last_put : (below front : List (List ℕ)) (i : ℕ) (put next : List ℕ) → suc i ≡ length below
+    → set below i put ≡ front ++ next ∷ [] → front ≡ take i (set below i put) → next ++ joined front ≡ put ++ joined front
 last_put below front i put next l e f = sym (joined_push front next) ∙ ap joined (sym e ∙ last_is below front i put l f) ∙ joined_push front put

@@ -1,5 +1,5 @@
 -- Lines: the rest of a line is found by its newline.
-use Rattle.std.proofs.Common.{◌≡◌, ℕ, suc, ◌+◌, ◌-◌, ◌<◌, ◌≤◌, Bool, true, false, List, [], ◌∷◌, ◌++◌, length, take}
+use Rattle.std.proofs.Common.{◌≡◌, ℕ, suc, ◌+◌, ◌-◌, ◌≤◌, Bool, true, false, List, [], ◌∷◌, ◌++◌, length, take}
 use Rattle.std.proofs.Common.{drop, Option, Some, None, refl, sym, ap, ◌∙◌, arith, add-one, length-append}
 use Rattle.std.proofs.lemmas.List.{take-append-drop}
 use Rattle.std.proofs.Math.ListN.{drop_of_length-le}
@@ -25,10 +25,12 @@ before_on true o = Some 0
 before_on false o = one_more o
 
 line_is : (b : ℕ) (x : List ℕ) → line_length (b ∷ x) ≡ line_on (b == newline) (line_length x)
-line_is b x = elim (b == newline) as (λ v. (elim v [ true ↦ Some 1 | false ↦ one_more (line_length x) ]) ≡ line_on v (line_length x)) [ true ↦ refl | false ↦ refl ]
+line_is b x = elim (b == newline) as (λ v. (elim v [ true ↦ Some 1 | false ↦ one_more (line_length x) ])
+    ≡ line_on v (line_length x)) [ true ↦ refl | false ↦ refl ]
 
 before_is : (e : List ℕ) (b : ℕ) (x : List ℕ) → before e (b ∷ x) ≡ before_on (begins e (b ∷ x)) (before e x)
-before_is e b x = elim (begins e (b ∷ x)) as (λ v. (elim v [ true ↦ Some 0 | false ↦ one_more (before e x) ]) ≡ before_on v (before e x)) [ true ↦ refl | false ↦ refl ]
+before_is e b x = elim (begins e (b ∷ x)) as
+    (λ v. (elim v [ true ↦ Some 0 | false ↦ one_more (before e x) ]) ≡ before_on v (before e x)) [ true ↦ refl | false ↦ refl ]
 
 both_on : (v : Bool) (o o' : Option ℕ) → o ≡ one_more o' → line_on v o ≡ one_more (before_on v o')
 both_on true o o' e = refl
@@ -51,13 +53,15 @@ pub line_none : (x : List ℕ) → None ≡ before (newline ∷ []) x → None �
 line_none x e = ap one_more e ∙ sym (line_found x)
 
 -- the rest of a line is dropped as far as it is in hand
-pub line_dropped : (old new : Held) (n : ℕ) → line_length (text_of old.pending) ≡ Some n → new ≡ record old { pending = consumed n old.pending } → LineGives old new true
+pub line_dropped : (old new : Held) (n : ℕ) → line_length (text_of old.pending) ≡ Some n
+    → new ≡ record old { pending = consumed n old.pending } → LineGives old new true
 line_dropped old new n e f = (
   ap (λ (o : Option ℕ). after_line_of o old.pending) e ∙ ap (λ (h : Held). Some h.pending) (sym f),
   ap (λ (h : Held). h.fault) f,
 )
 
-pub all_dropped : (old new : Held) (v : Bool) → (old.pending).may_follow ≡ v → line_length (text_of old.pending) ≡ None → new ≡ record old { pending = all_read old.pending } → LineGives old new (not v)
+pub all_dropped : (old new : Held) (v : Bool) → (old.pending).may_follow ≡ v → line_length (text_of old.pending) ≡ None
+    → new ≡ record old { pending = all_read old.pending } → LineGives old new (not v)
 all_dropped old new true m e f = (
   ap (λ (o : Option ℕ). after_line_of o old.pending) e ∙ ap (λ (b : Bool). all_read_if_ended b old.pending) m,
   f,
@@ -72,10 +76,31 @@ all_read_is : (p : Pending) → all_read p ≡ record p { definition = None; pus
 all_read_is p =
     let l : length (text_of p) ≡ length p.pushed + length p.unread = length-append p.pushed p.unread in
     let m : length (text_of p) - length p.pushed ≡ length p.unread = omega arith in
-    ap (λ (x : List ℕ). let q : Pending = record p { definition = None; pushed = x; unread = drop (length (text_of p) - length p.pushed) p.unread; newlines = counted p.newlines (newlines_in (take (length (text_of p) - length p.pushed) p.unread)) } in q) (drop_of_length-le p.pushed (omega arith))
-    ∙ ap (λ (n : ℕ). let q : Pending = record p { definition = None; pushed = []; unread = drop n p.unread; newlines = counted p.newlines (newlines_in (take n p.unread)) } in q) m
-    ∙ ap (λ (x : List ℕ). let q : Pending = record p { definition = None; pushed = []; unread = x; newlines = counted p.newlines (newlines_in (take (length p.unread) p.unread)) } in q) (drop_of_length-le p.unread (omega arith))
-    ∙ ap (λ (x : List ℕ). let q : Pending = record p { definition = None; pushed = []; unread = []; newlines = counted p.newlines (newlines_in x) } in q) (take_long (length p.unread) p.unread (omega arith))
+    ap (λ (x : List ℕ). let q : Pending =
+    record p {
+      definition = None;
+      pushed = x;
+      unread = drop (length (text_of p) - length p.pushed) p.unread;
+      newlines = counted p.newlines (newlines_in (take (length (text_of p) - length p.pushed) p.unread));
+    } in q)
+    (drop_of_length-le p.pushed (omega arith))
+    ∙ ap (λ (n : ℕ). let q : Pending = record p {
+      definition = None;
+      pushed = [];
+      unread = drop n p.unread;
+      newlines = counted p.newlines (newlines_in (take n p.unread));
+    } in q) m
+    ∙ ap (λ (x : List ℕ). let q : Pending =
+    record p {
+      definition = None;
+      pushed = [];
+      unread = x;
+      newlines = counted p.newlines (newlines_in (take (length p.unread) p.unread));
+    } in q)
+    (drop_of_length-le p.unread (omega arith))
+    ∙ ap (λ (x : List ℕ). let q : Pending =
+    record p { definition = None; pushed = []; unread = []; newlines = counted p.newlines (newlines_in x) } in q)
+    (take_long (length p.unread) p.unread (omega arith))
 
 -- the bytes of a block after those that were dropped
 module _ (y : List ℕ) (b : Bool) (p : Pending) where
@@ -99,7 +124,8 @@ module _ (y : List ℕ) (b : Bool) (p : Pending) where
   line_by : (o : Option ℕ) (v : Bool) → b ≡ v → after_line_of (further (length (text_of p)) o) (longer y b p) ≡ after_line_of o (longer y b (all_read p))
   line_by (Some n) v e = ap Some (sym (consumed_dropped n))
   line_by None true e = ap (λ (w : Bool). all_read_if_ended w (longer y b p)) e ∙ sym (ap (λ (w : Bool). all_read_if_ended w (longer y b (all_read p))) e)
-  line_by None false e = ap (λ (w : Bool). all_read_if_ended w (longer y b p)) e ∙ ap Some rest_dropped ∙ sym (ap (λ (w : Bool). all_read_if_ended w (longer y b (all_read p))) e)
+  line_by None false e = ap (λ (w : Bool). all_read_if_ended w (longer y b p)) e ∙ ap Some rest_dropped
+      ∙ sym (ap (λ (w : Bool). all_read_if_ended w (longer y b (all_read p))) e)
 
 none_more : (o : Option ℕ) → one_more o ≡ None → o ≡ None
 none_more None e = refl
@@ -113,7 +139,9 @@ further_one : (n : ℕ) (o : Option ℕ) → one_more (further n o) ≡ further 
 further_one n None = refl
 further_one n (Some m) = ap Some (omega arith)
 
-goes_by : (v : Bool) (x y : List ℕ) → line_on v (line_length x) ≡ None → (line_length x ≡ None → line_length (x ++ y) ≡ further (length x) (line_length y)) → line_on v (line_length (x ++ y)) ≡ further (suc (length x)) (line_length y)
+goes_by : (v : Bool) (x y : List ℕ) → line_on v (line_length x) ≡ None
+    → (line_length x ≡ None → line_length (x ++ y) ≡ further (length x) (line_length y))
+    → line_on v (line_length (x ++ y)) ≡ further (suc (length x)) (line_length y)
 goes_by true x y f h = cc
 goes_by false x y f h = ap one_more (h (none_more (line_length x) f)) ∙ further_one (length x) (line_length y)
 
@@ -136,7 +164,8 @@ line_in_front : (x y : List ℕ) (n : ℕ) → line_length x ≡ Some n → line
 line_in_front [] y n e = cc
 line_in_front (b ∷ x) y n e = line_is b (x ++ y) ∙ by (b == newline) (λ m. line_in_front x y m) (sym (line_is b x) ∙ e)
   where
-    by : (v : Bool) → ((m : ℕ) → line_length x ≡ Some m → line_length (x ++ y) ≡ Some m) → line_on v (line_length x) ≡ Some n → line_on v (line_length (x ++ y)) ≡ Some n
+    by : (v : Bool) → ((m : ℕ) → line_length x ≡ Some m → line_length (x ++ y) ≡ Some m)
+        → line_on v (line_length x) ≡ Some n → line_on v (line_length (x ++ y)) ≡ Some n
     by true h f = f
     by false h f = let k = one_more_is (line_length x) n f in ap one_more (h k.0 k.1) ∙ sym (ap Some k.2)
 
@@ -163,7 +192,8 @@ module _ (old h new : Held) (x : List ℕ) (s : IsLeft old h) (begins : x ≡ ta
   whole = ap (λ (y : List ℕ). y ++ drop (length x) (text_of h.pending)) begins ∙ take-append-drop (length x) (text_of h.pending)
 
   pub front_fits : length x ≤ length (text_of h.pending)
-  front_fits = let all : length x + length (drop (length x) (text_of h.pending)) ≡ length (text_of h.pending) = sym (length-append x (drop (length x) (text_of h.pending))) ∙ ap length whole in omega arith
+  front_fits = let all : length x + length (drop (length x) (text_of h.pending)) ≡ length (text_of h.pending) =
+      sym (length-append x (drop (length x) (text_of h.pending))) ∙ ap length whole in omega arith
 
   -- the line ends in them
   pub left_ends : (m : ℕ) → Some m ≡ line_length x → new ≡ record h { pending = consumed m h.pending } → LineGives old new true
@@ -172,14 +202,6 @@ module _ (old h new : Held) (x : List ℕ) (s : IsLeft old h) (begins : x ≡ ta
       left_gives old h new true s (line_dropped h new m there f)
 
   module _ (none : None ≡ line_length x) (f : new ≡ record h { pending = consumed (length x) h.pending }) where
-    -- they are all
-    pub left_all : x ≡ text_of h.pending → LineGives old new (not (new.pending).may_follow)
-    left_all same =
-        let there : line_length (text_of h.pending) ≡ None = ap line_length (sym same) ∙ sym none in
-        let all : new ≡ record h { pending = all_read h.pending } = f ∙ ap (λ (y : List ℕ). let k : Held = record h { pending = consumed (length y) h.pending } in k) same in
-        let may : (h.pending).may_follow ≡ (new.pending).may_follow = sym (ap (λ (k : Held). (k.pending).may_follow) f) in
-        left_gives old h new (not (new.pending).may_follow) s (all_dropped h new (new.pending).may_follow may there all)
-
     -- others come after them
     text_left : text_of (consumed (length x) h.pending) ≡ drop (length x) (text_of h.pending)
     text_left = sym (drop_parts (length x) (h.pending).pushed (h.pending).unread)
@@ -211,9 +233,3 @@ module _ (old h new : Held) (x : List ℕ) (s : IsLeft old h) (begins : x ≡ ta
       rest = ap (λ (k : Held). all_read k.pending) f ∙ all_left ∙ s.rest;
       fault = ap (λ (k : Held). k.fault) f ∙ s.fault;
     }
-
-    pub left_fewer : 0 < length x → length (text_of new.pending) < length (text_of h.pending)
-    left_fewer some =
-        let len : length (text_of new.pending) ≡ length (text_of h.pending) - length x = ap (λ (k : Held). length (text_of k.pending)) f ∙ text-consumed (length x) h.pending in
-        let fits : length x ≤ length (text_of h.pending) = front_fits in
-        omega arith

@@ -24,7 +24,8 @@ letter_length b y h = by_test (is_name_byte b) (ap (λ v. v || is_digit b) h)
     by_test false e = cc
 
 -- a name has a byte
-pub name_begins : (q c : Delimiters) (m : Bool) (b : ℕ) (x : List ℕ) (k : Kind) → x ≡ b ∷ drop 1 x → k ≡ kind_of q c m b (drop 1 x) → k ≡ NameHere → 0 < run_length is_name_byte x
+pub name_begins : (q c : Delimiters) (m : Bool) (b : ℕ) (x : List ℕ) (k : Kind) → x ≡ b ∷ drop 1 x
+    → k ≡ kind_of q c m b (drop 1 x) → k ≡ NameHere → 0 < run_length is_name_byte x
 name_begins q c m b x k e g h =
     subst (λ (z : List ℕ). 0 < run_length is_name_byte z) (sym e)
     (letter_length b (drop 1 x) (letter_of _ _ _ _ _ (sym g ∙ h)))

@@ -25,7 +25,9 @@ hits : (a b : ℕ) (v : List ℕ) → map (top 7) (zip2 bit_or (map (λ x. hit x
 hits a b [] = refl
 hits a b (x ∷ v) = ap₂ (λ t r. t ∷ r) (top_of (eqb x a) (eqb x b)) (hits a b v)
 
-pub either_marks : (a b : ℕ) (v : List ℕ) → length v ≡ 16 → mask_l (map (top 7) (zip2 bit_or (zip2 hit v (replicate 16 a)) (zip2 hit v (replicate 16 b)))) % 2 ^ 64 ≡ mask_l (map (is_byte2 a b) v)
+pub either_marks : (a b : ℕ) (v : List ℕ) → length v ≡ 16
+    → mask_l (map (top 7) (zip2 bit_or (zip2 hit v (replicate 16 a)) (zip2 hit v (replicate 16 b)))) % 2 ^ 64
+    ≡ mask_l (map (is_byte2 a b) v)
 either_marks a b v long =
     ap (λ l. mask_l (map (top 7) l) % 2 ^ 64) (ap₂ (zip2 bit_or) (zip2_splat hit v 16 a long) (zip2_splat hit v 16 b long))
     ∙ ap (λ l. mask_l l % 2 ^ 64) (hits a b v) ∙ mask_l-mod (map (is_byte2 a b) v) 64 (omega (arith, length-map v (is_byte2 a b), long))
@@ -54,7 +56,8 @@ both : (h : ℕ → ℕ → ℕ) (f g : ℕ → ℕ) (v : List ℕ) → zip2 h (
 both h f g [] = refl
 both h f g (x ∷ v) = ap (λ r. h (f x) (g x) ∷ r) (both h f g v)
 
-letters : (v : List ℕ) → length v ≡ 16 → zip2 at_most (replicate 16 26) (zip2 minus (zip2 bit_or v (replicate 16 32)) (replicate 16 97)) ≡ map (λ x. at_most 26 (minus (bit_or x 32) 97)) v
+letters : (v : List ℕ) → length v ≡ 16 → zip2 at_most (replicate 16 26)
+    (zip2 minus (zip2 bit_or v (replicate 16 32)) (replicate 16 97)) ≡ map (λ x. at_most 26 (minus (bit_or x 32) 97)) v
 letters v long =
     ap (λ l. zip2 at_most (replicate 16 26) (zip2 minus l (replicate 16 97))) (zip2_splat bit_or v 16 32 long)
     ∙ ap (zip2 at_most (replicate 16 26)) (on_right v long minus (λ x. bit_or x 32) 97)
@@ -65,7 +68,9 @@ digits v long =
     ap (zip2 at_most (replicate 16 10)) (zip2_splat minus v 16 48 long)
     ∙ on_left v long at_most (λ x. minus x 48) 10
 
-lanes : (v : List ℕ) → length v ≡ 16 → zip2 bit_and (zip2 bit_and (zip2 at_most (replicate 16 26) (zip2 minus (zip2 bit_or v (replicate 16 32)) (replicate 16 97))) (zip2 at_most (replicate 16 10) (zip2 minus v (replicate 16 48)))) (zip2 differ v (replicate 16 95)) ≡ map lane v
+lanes : (v : List ℕ) → length v ≡ 16 → zip2 bit_and
+    (zip2 bit_and (zip2 at_most (replicate 16 26) (zip2 minus (zip2 bit_or v (replicate 16 32)) (replicate 16 97)))
+    (zip2 at_most (replicate 16 10) (zip2 minus v (replicate 16 48)))) (zip2 differ v (replicate 16 95)) ≡ map lane v
 lanes v long =
     ap₂ (zip2 bit_and)
     (ap₂ (zip2 bit_and) (letters v long) (digits v long) ∙ both bit_and (λ x. at_most 26 (minus (bit_or x 32) 97)) (λ x. at_most 10 (minus x 48)) v)
@@ -75,12 +80,18 @@ lanes v long =
 abbrev agrees : ℕ → Bool
 agrees x = beq (top 7 (lane x)) (not (is_name_byte x))
 
-each : (n : ℕ) (x : List ℕ) → ((i : ℕ) → Fits w8 (get_or x i 0)) → all_below agrees 256 ≡ true → map (top 7) (map lane (take n x)) ≡ map (λ (b : ℕ). not (is_name_byte b)) (take n x)
+each : (n : ℕ) (x : List ℕ) → ((i : ℕ) → Fits w8 (get_or x i 0)) → all_below agrees 256 ≡ true
+    → map (top 7) (map lane (take n x)) ≡ map (λ (b : ℕ). not (is_name_byte b)) (take n x)
 each zero x fits all = refl
 each (suc n) [] fits all = refl
 each (suc n) (b ∷ x) fits all = ap₂ (λ t r. t ∷ r) (same _ _ (at_each agrees 256 all b ((fits 0).fits))) (each n x (λ i. fits (suc i)) all)
 
-pub other_marks : (x : List ℕ) → length (take 16 x) ≡ 16 → ((i : ℕ) → Fits w8 (get_or x i 0)) → mask_l (map (top 7) (zip2 bit_and (zip2 bit_and (zip2 at_most (replicate 16 26) (zip2 minus (zip2 bit_or (take 16 x) (replicate 16 32)) (replicate 16 97))) (zip2 at_most (replicate 16 10) (zip2 minus (take 16 x) (replicate 16 48)))) (zip2 differ (take 16 x) (replicate 16 95)))) % 2 ^ 64 ≡ mask_l (map (λ (b : ℕ). not (is_name_byte b)) (take 16 x))
+pub other_marks : (x : List ℕ) → length (take 16 x) ≡ 16 → ((i : ℕ) → Fits w8 (get_or x i 0))
+    → mask_l (map (top 7) (zip2 bit_and
+    (zip2 bit_and (zip2 at_most (replicate 16 26)
+    (zip2 minus (zip2 bit_or (take 16 x) (replicate 16 32)) (replicate 16 97)))
+    (zip2 at_most (replicate 16 10) (zip2 minus (take 16 x) (replicate 16 48))))
+    (zip2 differ (take 16 x) (replicate 16 95)))) % 2 ^ 64 ≡ mask_l (map (λ (b : ℕ). not (is_name_byte b)) (take 16 x))
 unfolding all_below
 other_marks x long fits =
     let v : List ℕ = take 16 x in

@@ -29,8 +29,10 @@ run_has_none : (x : List ℕ) → newlines_in (take (run_length is_name_byte x) 
 run_has_none [] = refl
 run_has_none (b ∷ x) = by (is_name_byte b) refl (run_has_none x)
   where
-    by : (v : Bool) → is_name_byte b ≡ v → newlines_in (take (run_length is_name_byte x) x) ≡ 0 → newlines_in (take (elim v [ true ↦ suc (run_length is_name_byte x) | false ↦ 0 ]) (b ∷ x)) ≡ 0
-    by true e rest = one_more b (take (run_length is_name_byte x) x) ∙ ap (λ (v : Bool). one_if v + newlines_in (take (run_length is_name_byte x) x)) (not_newline b e) ∙ omega (arith, rest)
+    by : (v : Bool) → is_name_byte b ≡ v → newlines_in (take (run_length is_name_byte x) x) ≡ 0
+        → newlines_in (take (elim v [ true ↦ suc (run_length is_name_byte x) | false ↦ 0 ]) (b ∷ x)) ≡ 0
+    by true e rest = one_more b (take (run_length is_name_byte x) x)
+        ∙ ap (λ (v : Bool). one_if v + newlines_in (take (run_length is_name_byte x) x)) (not_newline b e) ∙ omega (arith, rest)
     by false e rest = refl
 
 pub name_has_none : (q c : Delimiters) (m : Bool) (x t : List ℕ) (n : ℕ) → scan q c m x ≡ Found (Name t) n → newlines_in (take n x) ≡ 0

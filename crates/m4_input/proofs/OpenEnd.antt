@@ -89,7 +89,8 @@ begins_long (b ∷ p) (c ∷ x) e = let l : length p ≤ length x = begins_long 
 pub run_fits : (f : ℕ → Bool) (x : List ℕ) → run_length f x ≤ length x
 run_fits f [] = omega arith
 run_fits f (b ∷ x) =
-    elim (f b) as (λ v. (elim v [ true ↦ suc (run_length f x) | false ↦ 0 ]) ≤ length (b ∷ x)) [ true ↦ let l : run_length f x ≤ length x = run_fits f x in omega arith | false ↦ omega arith ]
+    elim (f b) as (λ v. (elim v [ true ↦ suc (run_length f x) | false ↦ 0 ]) ≤ length (b ∷ x))
+    [ true ↦ let l : run_length f x ≤ length x = run_fits f x in omega arith | false ↦ omega arith ]
 
 abbrev run_on : Bool → ℕ → ℕ
 run_on true n = suc n
@@ -105,7 +106,8 @@ run_on_stable false m n l h ih = refl
 pub run_stable : (f : ℕ → Bool) (x z : List ℕ) → (run_length f x ≡ length x → ⊥) → run_length f (x ++ z) ≡ run_length f x
 run_stable f [] z h = let e : run_length f [] ≡ length {A = ℕ} [] = refl in absurd (h e)
 run_stable f (b ∷ x) z h =
-    run_is f b (x ++ z) ∙ run_on_stable (f b) (run_length f (x ++ z)) (run_length f x) (length x) (λ e. h (run_is f b x ∙ e)) (run_stable f x z) ∙ sym (run_is f b x)
+    run_is f b (x ++ z) ∙ run_on_stable (f b) (run_length f (x ++ z)) (run_length f x) (length x)
+    (λ e. h (run_is f b x ∙ e)) (run_stable f x z) ∙ sym (run_is f b x)
 
 pub one_more_is : (o : Option ℕ) (n : ℕ) → one_more o ≡ Some n → (m : ℕ) × (o ≡ Some m) × (n ≡ suc m)
 one_more_is None n e = cc
@@ -114,7 +116,8 @@ one_more_is (Some m) n e = (m, refl, cc)
 pub before_fits : (e x : List ℕ) (n : ℕ) → before e x ≡ Some n → n + length e ≤ length x
 before_fits e [] n h = cc
 before_fits e (b ∷ x) n h =
-    (elim (begins e (b ∷ x)) as (λ v. begins e (b ∷ x) ≡ v → (elim v [ true ↦ Some 0 | false ↦ one_more (before e x) ]) ≡ Some n → n + length e ≤ length (b ∷ x)) [
+    (elim (begins e (b ∷ x)) as (λ v. begins e (b ∷ x) ≡ v
+    → (elim v [ true ↦ Some 0 | false ↦ one_more (before e x) ]) ≡ Some n → n + length e ≤ length (b ∷ x)) [
       | true ↦ λ g i. let l : length e ≤ length (b ∷ x) = begins_long e (b ∷ x) g in let m : 0 ≡ n = cc in omega arith
       | false ↦ λ g i. let k = one_more_is _ n i in let l : k.0 + length e ≤ length x = before_fits e x k.0 k.1 in let m : n ≡ suc k.0 = k.2 in omega arith
     ]) refl h
@@ -122,7 +125,8 @@ before_fits e (b ∷ x) n h =
 pub before_stable : (e x z : List ℕ) (n : ℕ) → before e x ≡ Some n → before e (x ++ z) ≡ Some n
 before_stable e [] z n h = cc
 before_stable e (b ∷ x) z n h =
-    (elim (begins e (b ∷ x)) as (λ v. begins e (b ∷ x) ≡ v → (elim v [ true ↦ Some 0 | false ↦ one_more (before e x) ]) ≡ Some n → before e (b ∷ (x ++ z)) ≡ Some n) [
+    (elim (begins e (b ∷ x)) as (λ v. begins e (b ∷ x) ≡ v
+    → (elim v [ true ↦ Some 0 | false ↦ one_more (before e x) ]) ≡ Some n → before e (b ∷ (x ++ z)) ≡ Some n) [
       | true ↦ λ g i. ap (λ v. elim v [ true ↦ Some 0 | false ↦ one_more (before e (x ++ z)) ]) (begins_more e (b ∷ x) z g) ∙ i
       | false ↦ λ g i.
           let k = one_more_is _ n i in
@@ -143,7 +147,8 @@ both_false false a b e f = refl
 pub mark_stays : (q : Delimiters) (p : Bool) (y z : List ℕ) → (mark_at q true y ≡ CutQuote) ⊎ (mark_at q p (y ++ z) ≡ mark_at q true y)
 mark_stays q p y z = go (begins q.end y) (is_cut y q.end || is_cut y q.begin) (begins q.begin y) refl refl refl
   where
-    go : (u v w : Bool) → begins q.end y ≡ u → (is_cut y q.end || is_cut y q.begin) ≡ v → begins q.begin y ≡ w → (mark_by u v w ≡ CutQuote) ⊎ (mark_at q p (y ++ z) ≡ mark_by u v w)
+    go : (u v w : Bool) → begins q.end y ≡ u → (is_cut y q.end || is_cut y q.begin) ≡ v → begins q.begin y ≡ w
+        → (mark_by u v w ≡ CutQuote) ⊎ (mark_at q p (y ++ z) ≡ mark_by u v w)
     go true v w e f g = inr (ap (λ t. mark_by t (p && (is_cut (y ++ z) q.end || is_cut (y ++ z) q.begin)) (begins q.begin (y ++ z))) (begins_more q.end y z e))
     go false true w e f g = inl refl
     go false false w e f g =
@@ -175,20 +180,29 @@ down_long q p y e = go (begins q.end y) (p && (is_cut y q.end || is_cut y q.begi
     go false false true f g = cc
     go false false false f g = cc
 
-mark_fits : (q : Delimiters) (k b : ℕ) (y : List ℕ) → ((j skip m : ℕ) → level q true j skip y ≡ Some m → m + length q.end ≤ length y) → (n : ℕ) (m : Mark) → mark_at q true (b ∷ y) ≡ m → on_mark q true k y m ≡ Some n → n + length q.end ≤ length (b ∷ y)
+mark_fits : (q : Delimiters) (k b : ℕ) (y : List ℕ)
+    → ((j skip m : ℕ) → level q true j skip y ≡ Some m → m + length q.end ≤ length y) → (n : ℕ) (m : Mark)
+    → mark_at q true (b ∷ y) ≡ m → on_mark q true k y m ≡ Some n → n + length q.end ≤ length (b ∷ y)
 unfolding on_mark
 mark_fits q zero b y ih n EndQuote f e = let l : length q.end ≤ length (b ∷ y) = down_long q true (b ∷ y) f in let m : 0 ≡ n = cc in omega arith
-mark_fits q (suc k) b y ih n EndQuote f e = let h = one_more_is _ n e in let l : h.0 + length q.end ≤ length y = ih _ _ h.0 h.1 in let m : n ≡ suc h.0 = h.2 in omega arith
-mark_fits q k b y ih n BeginQuote f e = let h = one_more_is _ n e in let l : h.0 + length q.end ≤ length y = ih _ _ h.0 h.1 in let m : n ≡ suc h.0 = h.2 in omega arith
-mark_fits q k b y ih n PlainByte f e = let h = one_more_is _ n e in let l : h.0 + length q.end ≤ length y = ih _ _ h.0 h.1 in let m : n ≡ suc h.0 = h.2 in omega arith
+mark_fits q (suc k) b y ih n EndQuote f e = let h = one_more_is _ n e in let l : h.0 + length q.end ≤ length y =
+    ih _ _ h.0 h.1 in let m : n ≡ suc h.0 = h.2 in omega arith
+mark_fits q k b y ih n BeginQuote f e = let h = one_more_is _ n e in let l : h.0 + length q.end ≤ length y =
+    ih _ _ h.0 h.1 in let m : n ≡ suc h.0 = h.2 in omega arith
+mark_fits q k b y ih n PlainByte f e = let h = one_more_is _ n e in let l : h.0 + length q.end ≤ length y =
+    ih _ _ h.0 h.1 in let m : n ≡ suc h.0 = h.2 in omega arith
 mark_fits q k b y ih n CutQuote f e = cc
 
 pub inside_fits : (q : Delimiters) (k skip : ℕ) (x : List ℕ) (n : ℕ) → level q true k skip x ≡ Some n → n + length q.end ≤ length x
 inside_fits q k skip [] n e = cc
-inside_fits q k (suc skip) (b ∷ y) n e = let h = one_more_is _ n e in let l : h.0 + length q.end ≤ length y = inside_fits q k skip y h.0 h.1 in let m : n ≡ suc h.0 = h.2 in omega arith
-inside_fits q k zero (b ∷ y) n e = mark_fits q k b y (λ j skip m g. inside_fits q j skip y m g) n (mark_at q true (b ∷ y)) refl (sym (inside_is q true k b y) ∙ e)
+inside_fits q k (suc skip) (b ∷ y) n e = let h = one_more_is _ n e in let l : h.0 + length q.end ≤ length y =
+    inside_fits q k skip y h.0 h.1 in let m : n ≡ suc h.0 = h.2 in omega arith
+inside_fits q k zero (b ∷ y) n e = mark_fits q k b y (λ j skip m g. inside_fits q j skip y m g) n
+    (mark_at q true (b ∷ y)) refl (sym (inside_is q true k b y) ∙ e)
 
-on_mark_stable : (q : Delimiters) (p : Bool) (k : ℕ) (y z : List ℕ) → ((j skip m : ℕ) → level q true j skip y ≡ Some m → level q p j skip (y ++ z) ≡ Some m) → (n : ℕ) (m : Mark) → on_mark q true k y m ≡ Some n → on_mark q p k (y ++ z) m ≡ Some n
+on_mark_stable : (q : Delimiters) (p : Bool) (k : ℕ) (y z : List ℕ)
+    → ((j skip m : ℕ) → level q true j skip y ≡ Some m → level q p j skip (y ++ z) ≡ Some m) → (n : ℕ) (m : Mark)
+    → on_mark q true k y m ≡ Some n → on_mark q p k (y ++ z) m ≡ Some n
 unfolding on_mark
 on_mark_stable q p zero y z ih n EndQuote e = e
 on_mark_stable q p (suc k) y z ih n EndQuote e = let h = one_more_is _ n e in ap one_more (ih _ _ h.0 h.1) ∙ sym (ap Some h.2)
@@ -216,13 +230,16 @@ inside_stable q p k zero (b ∷ y) z n e =
 abbrev pub Stays : Scan → Scan → Type 0
 Stays v w = (v ≡ NeedsMore) ⊎ (w ≡ v)
 
-comment_stays : (c : Delimiters) (p : Bool) (x z : List ℕ) (o o' : Option ℕ) → ((n : ℕ) → o ≡ Some n → (o' ≡ Some n) × (length c.begin + (n + length c.end) ≤ length x)) → Stays (comment_found c true x o) (comment_found c p (x ++ z) o')
+comment_stays : (c : Delimiters) (p : Bool) (x z : List ℕ) (o o' : Option ℕ)
+    → ((n : ℕ) → o ≡ Some n → (o' ≡ Some n) × (length c.begin + (n + length c.end) ≤ length x))
+    → Stays (comment_found c true x o) (comment_found c p (x ++ z) o')
 comment_stays c p x z None o' h = inl refl
 comment_stays c p x z (Some n) o' h =
     let k = h n refl in
     inr (ap (comment_found c p (x ++ z)) k.0 ∙ ap (λ y. Found (Comment y) (length c.begin + (n + length c.end))) (take-append-le _ x z k.1))
 
-string_stays : (q : Delimiters) (p : Bool) (y z : List ℕ) (o o' : Option ℕ) → ((n : ℕ) → o ≡ Some n → (o' ≡ Some n) × (n ≤ length y)) → Stays (string_found q true y o) (string_found q p (y ++ z) o')
+string_stays : (q : Delimiters) (p : Bool) (y z : List ℕ) (o o' : Option ℕ)
+    → ((n : ℕ) → o ≡ Some n → (o' ≡ Some n) × (n ≤ length y)) → Stays (string_found q true y o) (string_found q p (y ++ z) o')
 string_stays q p y z None o' h = inl refl
 string_stays q p y z (Some n) o' h =
     let k = h n refl in
@@ -238,7 +255,9 @@ name_stays p x z = go (eqb (run_length is_name_byte x) (length x)) refl
         let same : run_length is_name_byte (x ++ z) ≡ run_length is_name_byte x = run_stable is_name_byte x z apart in
         let fits : run_length is_name_byte x ≤ length x = run_fits is_name_byte x in
         let longer : length (x ++ z) ≡ length x + length z = length-append x z in
-        let short : (p && eqb (run_length is_name_byte (x ++ z)) (length (x ++ z))) ≡ false = off p (false_from _ (λ g. let i : run_length is_name_byte (x ++ z) ≡ length (x ++ z) = eqb-true _ _ g in apart (omega arith))) in
+        let short : (p && eqb (run_length is_name_byte (x ++ z)) (length (x ++ z))) ≡ false =
+        off p (false_from _ (λ g. let i : run_length is_name_byte (x ++ z) ≡ length (x ++ z) =
+        eqb-true _ _ g in apart (omega arith))) in
         inr (ap (λ v. name_unless v (run_length is_name_byte (x ++ z)) (x ++ z)) short
         ∙ ap (λ n. Found (Name (take n (x ++ z))) n) same
         ∙ ap (λ y. Found (Name y) (run_length is_name_byte x)) (take-append-le _ x z fits))
@@ -248,9 +267,11 @@ name_stays p x z = go (eqb (run_length is_name_byte x) (length x)) refl
         off false e = refl
 
 pub front_stays : (q c : Delimiters) (p : Bool) (b : ℕ) (y z : List ℕ) → (kind_of q c true b y ≡ Undecided) ⊎ (kind_of q c p b (y ++ z) ≡ kind_of q c true b y)
-front_stays q c p b y z = go (starts_with c (b ∷ y)) (may_start c true (b ∷ y)) (is_letter b) (starts_with q (b ∷ y)) (may_start q true (b ∷ y)) (starts c) (starts q) (may c) (may q)
+front_stays q c p b y z = go (starts_with c (b ∷ y)) (may_start c true (b ∷ y)) (is_letter b) (starts_with q (b ∷ y))
+    (may_start q true (b ∷ y)) (starts c) (starts q) (may c) (may q)
   where
-    starts : (d : Delimiters) → (starts_with d (b ∷ y) ≡ true → starts_with d (b ∷ (y ++ z)) ≡ true) × (starts_with d (b ∷ y) ≡ false → may_start d true (b ∷ y) ≡ false → starts_with d (b ∷ (y ++ z)) ≡ false)
+    starts : (d : Delimiters) → (starts_with d (b ∷ y) ≡ true → starts_with d (b ∷ (y ++ z)) ≡ true)
+        × (starts_with d (b ∷ y) ≡ false → may_start d true (b ∷ y) ≡ false → starts_with d (b ∷ (y ++ z)) ≡ false)
     starts d = ((λ e. let h = and_true (is_enabled d) _ e in both_true _ _ h.0 (begins_more d.begin (b ∷ y) z h.1)), off (is_enabled d))
       where
         off : (v : Bool) → (v && begins d.begin (b ∷ y)) ≡ false → (v && is_cut (b ∷ y) d.begin) ≡ false → (v && begins d.begin (b ∷ (y ++ z))) ≡ false
@@ -275,7 +296,9 @@ front_stays q c p b y z = go (starts_with c (b ∷ y)) (may_start c true (b ∷ 
     go false false false false true f g h i = inl refl
     go false false false false false f g h i = inr (rw (f.1 refl refl, h refl, g.1 refl refl, i refl) refl)
 
-scan_front_stays : (f : Kind) (q c : Delimiters) (p : Bool) (b : ℕ) (y z : List ℕ) → (f ≡ CommentHere → length c.begin ≤ length (b ∷ y)) → (f ≡ StringHere → length q.begin ≤ length (b ∷ y)) → Stays (scan_kind f q c true b y) (scan_kind f q c p b (y ++ z))
+scan_front_stays : (f : Kind) (q c : Delimiters) (p : Bool) (b : ℕ) (y z : List ℕ)
+    → (f ≡ CommentHere → length c.begin ≤ length (b ∷ y)) → (f ≡ StringHere → length q.begin ≤ length (b ∷ y))
+    → Stays (scan_kind f q c true b y) (scan_kind f q c p b (y ++ z))
 scan_front_stays CommentHere q c p b y z h g =
     let l : length c.begin ≤ length (b ∷ y) = h refl in
     let d : drop (length c.begin) (b ∷ (y ++ z)) ≡ drop (length c.begin) (b ∷ y) ++ z = drop-append-le (length c.begin) (b ∷ y) z l in
@@ -288,7 +311,8 @@ scan_front_stays StringHere q c p b y z h g =
     let l : length q.begin ≤ length (b ∷ y) = g refl in
     let d : drop (length q.begin) (b ∷ (y ++ z)) ≡ drop (length q.begin) (b ∷ y) ++ z = drop-append-le (length q.begin) (b ∷ y) z l in
     subst (λ x. Stays (string_at q true (b ∷ y)) (string_found q p x (level q p 0 0 x))) (sym d)
-    (string_stays q p (drop (length q.begin) (b ∷ y)) z (level q true 0 0 (drop (length q.begin) (b ∷ y))) (level q p 0 0 (drop (length q.begin) (b ∷ y) ++ z)) (λ n e.
+    (string_stays q p (drop (length q.begin) (b ∷ y)) z (level q true 0 0 (drop (length q.begin) (b ∷ y)))
+    (level q p 0 0 (drop (length q.begin) (b ∷ y) ++ z)) (λ n e.
     let f : n + length q.end ≤ length (drop (length q.begin) (b ∷ y)) = inside_fits q 0 0 (drop (length q.begin) (b ∷ y)) n e in
     (inside_stable q p 0 0 (drop (length q.begin) (b ∷ y)) z n e, omega arith)))
 scan_front_stays ByteHere q c p b y z h g = inr refl
@@ -309,7 +333,10 @@ front_long q c b y false false false false false f g = ((λ e. cc), (λ e. cc))
 pub scan_stays : (q c : Delimiters) (p : Bool) (x z : List ℕ) → Stays (scan q c true x) (scan q c p (x ++ z))
 scan_stays q c p [] z = inl refl
 scan_stays q c p (b ∷ y) z =
-    let long = front_long q c b y (starts_with c (b ∷ y)) (may_start c true (b ∷ y)) (is_letter b) (starts_with q (b ∷ y)) (may_start q true (b ∷ y)) (λ e. begins_long c.begin (b ∷ y) ((and_true (is_enabled c) _ e).1)) (λ e. begins_long q.begin (b ∷ y) ((and_true (is_enabled q) _ e).1)) in
+    let long = front_long q c b y (starts_with c (b ∷ y)) (may_start c true (b ∷ y)) (is_letter b)
+    (starts_with q (b ∷ y)) (may_start q true (b ∷ y))
+    (λ e. begins_long c.begin (b ∷ y) ((and_true (is_enabled c) _ e).1))
+    (λ e. begins_long q.begin (b ∷ y) ((and_true (is_enabled q) _ e).1)) in
     ⊎_elim (λ e. inl (ap (λ f. scan_kind f q c true b y) e))
     (λ e. subst (λ f. Stays (scan q c true (b ∷ y)) (scan_kind f q c p b (y ++ z))) (sym e) (scan_front_stays (kind_of q c true b y) q c p b y z long.0 long.1))
     (front_stays q c p b y z)
@@ -320,12 +347,14 @@ FitsIn n (Found t k) = k ≤ n
 FitsIn n (Broken f) = Unit {0}
 FitsIn n NeedsMore = Unit {0}
 
-comment_in : (c : Delimiters) (x : List ℕ) (o : Option ℕ) → ((n : ℕ) → o ≡ Some n → length c.begin + (n + length c.end) ≤ length x) → FitsIn (length x) (comment_found c true x o)
+comment_in : (c : Delimiters) (x : List ℕ) (o : Option ℕ)
+    → ((n : ℕ) → o ≡ Some n → length c.begin + (n + length c.end) ≤ length x) → FitsIn (length x) (comment_found c true x o)
 unfolding FitsIn
 comment_in c x None h = tt
 comment_in c x (Some n) h = h n refl
 
-string_in : (q : Delimiters) (x y : List ℕ) (o : Option ℕ) → ((n : ℕ) → o ≡ Some n → length q.begin + (n + length q.end) ≤ length x) → FitsIn (length x) (string_found q true y o)
+string_in : (q : Delimiters) (x y : List ℕ) (o : Option ℕ)
+    → ((n : ℕ) → o ≡ Some n → length q.begin + (n + length q.end) ≤ length x) → FitsIn (length x) (string_found q true y o)
 unfolding FitsIn
 string_in q x y None h = tt
 string_in q x y (Some n) h = h n refl
@@ -335,7 +364,8 @@ unfolding FitsIn
 name_in true x = tt
 name_in false x = run_fits is_name_byte x
 
-scan_front_in : (f : Kind) (q c : Delimiters) (b : ℕ) (y : List ℕ) → (f ≡ CommentHere → length c.begin ≤ length (b ∷ y)) → (f ≡ StringHere → length q.begin ≤ length (b ∷ y)) → FitsIn (length (b ∷ y)) (scan_kind f q c true b y)
+scan_front_in : (f : Kind) (q c : Delimiters) (b : ℕ) (y : List ℕ) → (f ≡ CommentHere → length c.begin ≤ length (b ∷ y))
+    → (f ≡ StringHere → length q.begin ≤ length (b ∷ y)) → FitsIn (length (b ∷ y)) (scan_kind f q c true b y)
 unfolding FitsIn
 scan_front_in CommentHere q c b y h g =
     let l : length c.begin ≤ length (b ∷ y) = h refl in
@@ -353,7 +383,10 @@ scan_in : (q c : Delimiters) (x : List ℕ) → FitsIn (length x) (scan q c true
 unfolding FitsIn
 scan_in q c [] = tt
 scan_in q c (b ∷ y) =
-    let long = front_long q c b y (starts_with c (b ∷ y)) (may_start c true (b ∷ y)) (is_letter b) (starts_with q (b ∷ y)) (may_start q true (b ∷ y)) (λ e. begins_long c.begin (b ∷ y) ((and_true (is_enabled c) _ e).1)) (λ e. begins_long q.begin (b ∷ y) ((and_true (is_enabled q) _ e).1)) in
+    let long = front_long q c b y (starts_with c (b ∷ y)) (may_start c true (b ∷ y)) (is_letter b)
+    (starts_with q (b ∷ y)) (may_start q true (b ∷ y))
+    (λ e. begins_long c.begin (b ∷ y) ((and_true (is_enabled c) _ e).1))
+    (λ e. begins_long q.begin (b ∷ y) ((and_true (is_enabled q) _ e).1)) in
     scan_front_in (kind_of q c true b y) q c b y long.0 long.1
 
 pub scan_fits : (q c : Delimiters) (x : List ℕ) (t : Token) (n : ℕ) → scan q c true x ≡ Found t n → n ≤ length x
@@ -381,7 +414,8 @@ either_true false true true b' f g e = refl
 either_true false true false b' f g e = g refl
 either_true false false a' b' f g e = cc
 
-answer_stays : (v u w u' w' : Bool) → (u ≡ true → u' ≡ true) → (u ≡ false → w ≡ false → (u' ≡ false) × (w' ≡ false)) → (answer_by v u w ≡ Unknown) ⊎ (answer_by v u' w' ≡ answer_by v u w)
+answer_stays : (v u w u' w' : Bool) → (u ≡ true → u' ≡ true) → (u ≡ false → w ≡ false → (u' ≡ false) × (w' ≡ false))
+    → (answer_by v u w ≡ Unknown) ⊎ (answer_by v u' w' ≡ answer_by v u w)
 answer_stays false u w u' w' f g = inr refl
 answer_stays true true w u' w' f g = inr (rw (f refl) refl)
 answer_stays true false true u' w' f g = inl refl

@@ -60,7 +60,8 @@ passed_on q o n x m k b i d s e pos fits low is =
           let after : drop d (b ∷ rest) ≡ drop (k + d) x ++ z =
           ap (drop d) (sym whole) ∙ drop-append-le d (drop k x) z fits ∙ ap (λ (y : List ℕ). y ++ z) (drop-drop d k x) in
           s.same p z c
-          ∙ ap (further k) (ap (level q p m 0) whole ∙ is p z c ∙ passed_mark q p i d b rest pos fits_all ∙ ap (λ (y : List ℕ). further d (level q p i 0 y)) after)
+          ∙ ap (further k) (ap (level q p m 0) whole ∙ is p z c ∙ passed_mark q p i d b rest pos fits_all
+          ∙ ap (λ (y : List ℕ). further d (level q p i 0 y)) after)
           ∙ further_further k d (k + d) (level q p i 0 (drop (k + d) x ++ z)) refl;
     }
 
@@ -68,19 +69,24 @@ passed_on q o n x m k b i d s e pos fits low is =
 abbrev Marked : Delimiters → Bool → ℕ → List ℕ → Mark → Type 0
 Marked q o b y v = (p : Bool) (z : List ℕ) → MayCome o p z → mark_at q p (b ∷ (y ++ z)) ≡ v
 
-passed_past : (q : Delimiters) (o : Bool) (n : ℕ) (x : List ℕ) (m k b : ℕ) → HasPassed q o n x m k → drop k x ≡ b ∷ drop (k + 1) x → Marked q o b (drop (k + 1) x) PlainByte → HasPassed q o n x m (k + 1)
+passed_past : (q : Delimiters) (o : Bool) (n : ℕ) (x : List ℕ) (m k b : ℕ) → HasPassed q o n x m k
+    → drop k x ≡ b ∷ drop (k + 1) x → Marked q o b (drop (k + 1) x) PlainByte → HasPassed q o n x m (k + 1)
 passed_past q o n x m k b s e h =
     let fits : 1 ≤ length (drop k x) = subst (λ (y : List ℕ). 1 ≤ length y) (sym e) (omega arith) in
     passed_on q o n x m k b m 1 s e (omega arith) fits (omega arith) (λ p z c. level_at q p m b (drop (k + 1) x ++ z) PlainByte (h p z c))
 
-passed_up : (q : Delimiters) (o : Bool) (n : ℕ) (x : List ℕ) (m k b : ℕ) → HasPassed q o n x m k → drop k x ≡ b ∷ drop (k + 1) x → 0 < length q.begin → length q.begin ≤ length (drop k x) → Marked q o b (drop (k + 1) x) BeginQuote → HasPassed q o n x (m + 1) (k + length q.begin)
+passed_up : (q : Delimiters) (o : Bool) (n : ℕ) (x : List ℕ) (m k b : ℕ) → HasPassed q o n x m k
+    → drop k x ≡ b ∷ drop (k + 1) x → 0 < length q.begin → length q.begin ≤ length (drop k x)
+    → Marked q o b (drop (k + 1) x) BeginQuote → HasPassed q o n x (m + 1) (k + length q.begin)
 passed_up q o n x m k b s e pos fits h =
     let one : m + 1 ≡ suc m = omega arith in
     subst (λ i. HasPassed q o n x i (k + length q.begin)) (sym one)
     (passed_on q o n x m k b (suc m) (length q.begin) s e pos fits (omega arith) (λ p z c. level_at q p m b (drop (k + 1) x ++ z) BeginQuote (h p z c)))
 
 -- an end-quote takes at least a byte
-passed_down : (q : Delimiters) (o : Bool) (n : ℕ) (x : List ℕ) (m k b d : ℕ) → HasPassed q o n x m k → drop k x ≡ b ∷ drop (k + 1) x → 0 < d → length q.end - 1 ≡ d - 1 → d ≤ length (drop k x) → Marked q o b (drop (k + 1) x) EndQuote → (m ≡ 0 → ⊥) → HasPassed q o n x (m - 1) (k + d)
+passed_down : (q : Delimiters) (o : Bool) (n : ℕ) (x : List ℕ) (m k b d : ℕ) → HasPassed q o n x m k
+    → drop k x ≡ b ∷ drop (k + 1) x → 0 < d → length q.end - 1 ≡ d - 1 → d ≤ length (drop k x)
+    → Marked q o b (drop (k + 1) x) EndQuote → (m ≡ 0 → ⊥) → HasPassed q o n x (m - 1) (k + d)
 passed_down q o n x zero k b d s e pos as_long fits h ne = absurd (ne refl)
 passed_down q o n x (suc m) k b d s e pos as_long fits h ne =
     let one : suc m - 1 ≡ m = omega arith in
@@ -109,7 +115,8 @@ pub passed_so : (q : Delimiters) (o : Bool) (n : ℕ) (x : List ℕ) (m k : ℕ)
 passed_so q o n x m k s = record { within = s.within; low = s.low; same = λ p z c. s.same p z tt }
 
 -- the string goes on: nothing is left, or a quote is cut
-pub all_reached : (q : Delimiters) (o : Bool) (n : ℕ) (x : List ℕ) (m k : ℕ) → HasPassed q o n x m k → length x ≤ k → IsStringSoFar q o n x (string_so_far.Open k m)
+pub all_reached : (q : Delimiters) (o : Bool) (n : ℕ) (x : List ℕ) (m k : ℕ) → HasPassed q o n x m k → length x ≤ k
+    → IsStringSoFar q o n x (string_so_far.Open k m)
 all_reached q o n x m k s h = (s, passed_level q o n x m k s ∙ ap (λ (y : List ℕ). further k (level q o m 0 y)) (all_dropped x k h))
 
 -- a mark of any length at a place
@@ -130,11 +137,13 @@ module _ (q : Delimiters) (o : Bool) (n : ℕ) (x : List ℕ) (m k : ℕ) (s : H
   reached_down d is h ne =
       let fits : length q.end ≤ length (drop k x) = begins_length q.end (drop k x) (mark_down _ _ _ h) in
       let some : 1 ≤ length (drop k x) = some_left in
-      passed_down q o n x m k byte d s there (omega arith) (omega arith) (omega arith) (marked q o byte (drop (k + 1) x) EndQuote (seen EndQuote h) (λ f. cc)) ne
+      passed_down q o n x m k byte d s there (omega arith) (omega arith) (omega arith)
+      (marked q o byte (drop (k + 1) x) EndQuote (seen EndQuote h) (λ f. cc)) ne
 
   pub reached_up : 0 < length q.begin → BeginQuote ≡ mark_at q o (drop k x) → HasPassed q o n x (m + 1) (k + length q.begin)
   reached_up pos h =
-      passed_up q o n x m k byte s there pos (begins_length q.begin (drop k x) (mark_up _ _ _ h)) (marked q o byte (drop (k + 1) x) BeginQuote (seen BeginQuote h) (λ f. cc))
+      passed_up q o n x m k byte s there pos (begins_length q.begin (drop k x) (mark_up _ _ _ h))
+      (marked q o byte (drop (k + 1) x) BeginQuote (seen BeginQuote h) (λ f. cc))
 
   pub reached_past : PlainByte ≡ mark_at q o (drop k x) → HasPassed q o n x m (k + 1)
   reached_past h = passed_past q o n x m k byte s there (marked q o byte (drop (k + 1) x) PlainByte (seen PlainByte h) (λ f. cc))
@@ -153,7 +162,8 @@ module _ (q : Delimiters) (o : Bool) (n : ℕ) (x : List ℕ) (m k : ℕ) (s : H
       (level_there EndQuote h ∙ ap (λ (i : ℕ). further k (on_mark q o i (drop (k + 1) x) EndQuote)) none ∙ ap Some far, omega arith)
 
 -- the rest of a text is passed too
-passed_both : (q : Delimiters) (d : ℕ) (x y : List ℕ) (n m k j : ℕ) → HasPassed q true d x n k → y ≡ drop k x → HasPassed q true n y m j → HasPassed q true d x m (k + j)
+passed_both : (q : Delimiters) (d : ℕ) (x y : List ℕ) (n m k j : ℕ) → HasPassed q true d x n k → y ≡ drop k x
+    → HasPassed q true n y m j → HasPassed q true d x m (k + j)
 passed_both q d x y n m k j s e r =
     let len : length (drop k x) ≡ length x - k = length-drop k x in
     let same_len : length y ≡ length (drop k x) = ap length e in
@@ -173,7 +183,8 @@ passed_both q d x y n m k j s e r =
     }
 
 -- a string by its quotes of one byte each
-pub short_so_far : (q : Delimiters) (b e : ℕ) (o : Bool) (n : ℕ) (x : List ℕ) (r : StringSoFar) → q.begin ≡ b ∷ [] → q.end ≡ e ∷ [] → IsStringSoFar (record { begin = b ∷ []; end = e ∷ [] }) o n x r → IsStringSoFar q o n x r
+pub short_so_far : (q : Delimiters) (b e : ℕ) (o : Bool) (n : ℕ) (x : List ℕ) (r : StringSoFar) → q.begin ≡ b ∷ []
+    → q.end ≡ e ∷ [] → IsStringSoFar (record { begin = b ∷ []; end = e ∷ [] }) o n x r → IsStringSoFar q o n x r
 short_so_far q b e o n x r h g s =
     subst (λ (y : List ℕ). IsStringSoFar (record { begin = q.begin; end = y }) o n x r) (sym g)
     (subst (λ (y : List ℕ). IsStringSoFar (record { begin = y; end = e ∷ [] }) o n x r) (sym h) s)
@@ -187,14 +198,18 @@ not_begun e b w h = go (begins e (b ∷ w)) refl h
     none_more None e = refl
     none_more (Some n) e = cc
 
-    go : (v : Bool) → begins e (b ∷ w) ≡ v → ◌≡◌ {A = Option ℕ} (elim v [ true ↦ Some 0 | false ↦ one_more (before e w) ]) None → (begins e (b ∷ w) ≡ false) × (before e w ≡ None)
+    go : (v : Bool) → begins e (b ∷ w) ≡ v
+        → ◌≡◌ {A = Option ℕ} (elim v [ true ↦ Some 0 | false ↦ one_more (before e w) ]) None
+        → (begins e (b ∷ w) ≡ false) × (before e w ≡ None)
     go true f g = cc
     go false f g = (f, none_more (before e w) g)
 
 -- the first j bytes begin no end, whatever follows
-before_on : (e w : List ℕ) (j : ℕ) → before e w ≡ None → (j ≡ 0) ⊎ (j + (length e - 1) ≤ length w) → (z : List ℕ) → before e (w ++ z) ≡ further j (before e (drop j w ++ z))
+before_on : (e w : List ℕ) (j : ℕ) → before e w ≡ None → (j ≡ 0) ⊎ (j + (length e - 1) ≤ length w) → (z : List ℕ)
+    → before e (w ++ z) ≡ further j (before e (drop j w ++ z))
 before_on e w zero h f z = sym (no_further (before e (w ++ z)))
-before_on e [] (suc j) h f z = absurd (⊎_elim (λ i. (let no : suc j ≡ 0 = i in cc)) (λ l. (let k : suc j + (length e - 1) ≤ length {A = ℕ} [] = l in omega arith)) f)
+before_on e [] (suc j) h f z = absurd (⊎_elim (λ i. (let no : suc j ≡ 0 = i in cc))
+    (λ l. (let k : suc j + (length e - 1) ≤ length {A = ℕ} [] = l in omega arith)) f)
 before_on e (b ∷ w) (suc j) h f z =
     let k = not_begun e b w h in
     ⊎_elim (λ i. cc) (λ l.
@@ -282,24 +297,31 @@ longer_open q c (opens.Quoted k m) x y h =
     record {
       kind = kind_known q c x y StringHere h.kind (λ e. cc);
       long = omega arith;
-      passed = subst (λ (t : List ℕ). HasPassed q true 0 t m k) (sym (drop-append-le (length q.begin) x y l)) (longer_passed q 0 (drop (length q.begin) x) y m k h.passed);
+      passed = subst (λ (t : List ℕ). HasPassed q true 0 t m k) (sym (drop-append-le (length q.begin) x y l))
+          (longer_passed q 0 (drop (length q.begin) x) y m k h.passed);
     }
 
 -- the token of a text whose kind is known
-scan_so : (q c : Delimiters) (x : List ℕ) (k : Kind) → kind_in q c x ≡ k → (k ≡ Undecided → ⊥) → (b : ℕ) × (y : List ℕ) × (x ≡ b ∷ y) × (scan q c true x ≡ scan_kind k q c true b y)
+scan_so : (q c : Delimiters) (x : List ℕ) (k : Kind) → kind_in q c x ≡ k → (k ≡ Undecided → ⊥)
+    → (b : ℕ) × (y : List ℕ) × (x ≡ b ∷ y) × (scan q c true x ≡ scan_kind k q c true b y)
 scan_so q c [] k e n = absurd (n (sym e))
 scan_so q c (b ∷ y) k e n = (b, y, refl, ap (λ i. scan_kind i q c true b y) e)
 
 -- a name that was not looked at, and so on
 pub name_begins : (q c : Delimiters) (x : List ℕ) → kind_in q c x ≡ NameHere → NameIsOpen q c 0 x
-name_begins q c x e = record { kind = e; within = omega arith; same = λ z. (let n : ℕ = run_length is_name_byte (x ++ z) in let i : n ≡ 0 + n = omega arith in i) }
+name_begins q c x e = record {
+  kind = e;
+  within = omega arith;
+  same = λ z. (let n : ℕ = run_length is_name_byte (x ++ z) in let i : n ≡ 0 + n = omega arith in i);
+}
 
 -- ---- what is open stays so
 
 name_more : (n : ℕ) (x : List ℕ) → n ≡ length x → name_unless (eqb n (length x)) n x ≡ NeedsMore
 name_more n x e = ap (λ v. name_unless v n x) (eq-eqb n (length x) e)
 
-pub name_stays_open : (q c : Delimiters) (at : ℕ) (x y : List ℕ) → NameIsOpen q c at x → y ≡ drop at x → run_length is_name_byte y ≡ length y → StaysOpen q c (opens.Name (at + length y)) x
+pub name_stays_open : (q c : Delimiters) (at : ℕ) (x y : List ℕ) → NameIsOpen q c at x → y ≡ drop at x
+    → run_length is_name_byte y ≡ length y → StaysOpen q c (opens.Name (at + length y)) x
 name_stays_open q c at x y h e r =
     let len : length (drop at x) ≡ length x - at = length-drop at x in
     let same_len : length y ≡ length (drop at x) = ap length e in
@@ -322,7 +344,8 @@ name_stays_open q c at x y h e r =
       k.3 ∙ ap (λ (t : List ℕ). name_at true t) (sym k.2) ∙ name_more (run_length is_name_byte x) x whole,
     )
 
-pub comment_stays_open : (q c : Delimiters) (at n : ℕ) (x y : List ℕ) → CommentIsOpen q c at x → y ≡ drop (length c.begin + at) x → CommentGoesOn c.end n y → StaysOpen q c (opens.Comment (at + n)) x
+pub comment_stays_open : (q c : Delimiters) (at n : ℕ) (x y : List ℕ) → CommentIsOpen q c at x
+    → y ≡ drop (length c.begin + at) x → CommentGoesOn c.end n y → StaysOpen q c (opens.Comment (at + n)) x
 comment_stays_open q c at n x y h e g =
     let w : List ℕ = drop (length c.begin) x in
     let k = scan_so q c x CommentHere h.kind (λ e. cc) in
@@ -336,17 +359,22 @@ comment_stays_open q c at n x y h e g =
     ∙ further_further at n (at + n) (before c.end (drop n y ++ z)) refl
     ∙ ap (λ (t : List ℕ). further (at + n) (before c.end (t ++ z))) (ap (drop n) rest ∙ drop-drop n at w) in
     let none : before c.end w ≡ None =
-    ap (before c.end) (sym (append-nil w)) ∙ h.same [] ∙ ap (λ (t : List ℕ). further at (before c.end t)) (append-nil (drop at w) ∙ sym rest) ∙ further_none at (before c.end y) g.none in (
+    ap (before c.end) (sym (append-nil w)) ∙ h.same []
+    ∙ ap (λ (t : List ℕ). further at (before c.end t)) (append-nil (drop at w) ∙ sym rest)
+    ∙ further_none at (before c.end y) g.none in (
       record { kind = h.kind; long = h.long; within = omega arith; same = same },
       k.3 ∙ ap (λ (t : List ℕ). comment_at c true t) (sym k.2) ∙ ap (comment_found c true x) none,
     )
 
-pub string_stays_open : (q c : Delimiters) (at depth n m : ℕ) (x y : List ℕ) → StringIsOpen q c at depth x → y ≡ drop (length q.begin + at) x → IsStringSoFar q true depth y (string_so_far.Open n m) → StaysOpen q c (opens.Quoted (at + n) m) x
+pub string_stays_open : (q c : Delimiters) (at depth n m : ℕ) (x y : List ℕ) → StringIsOpen q c at depth x
+    → y ≡ drop (length q.begin + at) x → IsStringSoFar q true depth y (string_so_far.Open n m)
+    → StaysOpen q c (opens.Quoted (at + n) m) x
 string_stays_open q c at depth n m x y h e g =
     let w : List ℕ = drop (length q.begin) x in
     let rest : y ≡ drop at w = e ∙ sym (drop-drop at (length q.begin) x) in
     let k = scan_so q c x StringHere h.kind (λ e. cc) in
-    let none : level q true 0 0 w ≡ None = passed_level q true 0 w depth at h.passed ∙ further_none at (level q true depth 0 (drop at w)) (ap (level q true depth 0) (sym rest) ∙ g.1) in (
+    let none : level q true 0 0 w ≡ None = passed_level q true 0 w depth at h.passed
+    ∙ further_none at (level q true depth 0 (drop at w)) (ap (level q true depth 0) (sym rest) ∙ g.1) in (
       record { kind = h.kind; long = h.long; passed = passed_both q 0 w y depth m at n h.passed rest g.0 },
       k.3 ∙ ap (λ (t : List ℕ). string_at q true t) (sym k.2) ∙ ap (string_found q true w) none,
     )

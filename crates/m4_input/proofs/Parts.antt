@@ -17,7 +17,8 @@ drop_parts (suc n) (b ∷ x) y = let e : n - length x ≡ suc n - suc (length x)
 pub take_parts : (n : ℕ) (x y : List ℕ) → take n (x ++ y) ≡ take n x ++ take (n - length x) y
 take_parts zero x y = let e : 0 ≡ 0 - length x = omega arith in ap (λ m. take m y) e
 take_parts (suc n) [] y = let e : suc n ≡ suc n - 0 = omega arith in ap (λ m. take m y) e
-take_parts (suc n) (b ∷ x) y = let e : n - length x ≡ suc n - suc (length x) = omega arith in ap (λ (z : List ℕ). b ∷ z) (take_parts n x y ∙ ap (λ m. take n x ++ take m y) e)
+take_parts (suc n) (b ∷ x) y = let e : n - length x ≡ suc n - suc (length x) =
+    omega arith in ap (λ (z : List ℕ). b ∷ z) (take_parts n x y ∙ ap (λ m. take n x ++ take m y) e)
 
 pub take_long : (n : ℕ) (x : List ℕ) → length x ≤ n → take n x ≡ x
 take_long zero [] h = refl
@@ -49,5 +50,14 @@ apart_taken x t n h =
     let m : (n - length x) - length t.pushed ≡ n - length (x ++ t.pushed) = omega arith in
     let p : drop (n - length x) t.pushed ≡ drop n (x ++ t.pushed) =
     sym (drop_parts n x t.pushed ∙ ap (λ (z : List ℕ). z ++ drop (n - length x) t.pushed) (drop_of_length-le x (omega arith))) in
-    ap (λ i. let u : HeldText = record { pushed = drop (n - length x) t.pushed; unread = drop i t.unread; newlines = counted t.newlines (newlines_in (take i t.unread)) } in u) m
-    ∙ ap (λ (z : List ℕ). let u : HeldText = record { pushed = z; unread = drop (n - length (x ++ t.pushed)) t.unread; newlines = counted t.newlines (newlines_in (take (n - length (x ++ t.pushed)) t.unread)) } in u) p
+    ap (λ i. let u : HeldText = record {
+      pushed = drop (n - length x) t.pushed;
+      unread = drop i t.unread;
+      newlines = counted t.newlines (newlines_in (take i t.unread));
+    } in u) m
+    ∙ ap (λ (z : List ℕ). let u : HeldText =
+    record {
+      pushed = z;
+      unread = drop (n - length (x ++ t.pushed)) t.unread;
+      newlines = counted t.newlines (newlines_in (take (n - length (x ++ t.pushed)) t.unread));
+    } in u) p

@@ -115,7 +115,8 @@ module _ (b e : ℕ) where
 
   -- a string that was followed through k bytes, and the rest as a slice
   module _ (n : ℕ) (x : List ℕ) (o k : ℕ) (s : HasPassed short true n x o k) where
-    pub none_found : Nowhere (Passes (is_byte2 b e) (take (length x - k) (drop k x))) 0 (length (take (length x - k) (drop k x))) → (m : Bool) → IsStringSoFar short m n x (string_so_far.Open (length x) o)
+    pub none_found : Nowhere (Passes (is_byte2 b e) (take (length x - k) (drop k x))) 0
+        (length (take (length x - k) (drop k x))) → (m : Bool) → IsStringSoFar short m n x (string_so_far.Open (length x) o)
     none_found h m =
         followed short m n x o k (passed_so short m n x o k s)
         (subst (λ (y : List ℕ). ArePlain short m (length y) y) (rest_is x k) (plain_all short b e [] [] refl refl (take (length x - k) (drop k x)) None h m))

@@ -70,9 +70,11 @@ further_further n m k None e = refl
 further_further n m k (Some i) e = ap Some (omega arith)
 
 -- a delimiter of length d is passed
-pub passed_mark : (q : Delimiters) (p : Bool) (n d : ℕ) (b : ℕ) (y : List ℕ) → 0 < d → d ≤ length (b ∷ y) → one_more (level q p n (d - 1) y) ≡ further d (level q p n 0 (drop d (b ∷ y)))
+pub passed_mark : (q : Delimiters) (p : Bool) (n d : ℕ) (b : ℕ) (y : List ℕ) → 0 < d → d ≤ length (b ∷ y)
+    → one_more (level q p n (d - 1) y) ≡ further d (level q p n 0 (drop d (b ∷ y)))
 passed_mark q p n zero b y h g = absurd (omega arith)
-passed_mark q p n (suc d) b y h g = let e : suc d - 1 ≡ d = omega arith in ap (λ i. one_more (level q p n i y)) e ∙ (ap one_more (level_skip q p n d y (omega arith)) ∙ one_further d (suc d) (level q p n 0 (drop d y)) refl)
+passed_mark q p n (suc d) b y h g = let e : suc d - 1 ≡ d = omega arith in ap (λ i. one_more (level q p n i y)) e
+    ∙ (ap one_more (level_skip q p n d y (omega arith)) ∙ one_further d (suc d) (level q p n 0 (drop d y)) refl)
 
 pub mark_down : (u v w : Bool) → EndQuote ≡ mark_by u v w → u ≡ true
 mark_down true v w e = refl

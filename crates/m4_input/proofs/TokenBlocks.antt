@@ -26,7 +26,8 @@ pub none_came : (q c : Delimiters) (s : Option Script) (h : Held) → (h.pending
 none_came q c s h e f = record { read = none_read s h e f; undecided = inl refl }
 
 -- a question more
-pub come_more : (q c : Delimiters) (s a b : Option Script) (old h new : Held) (x : List ℕ) (came : Bool) → HasCome q c s a old h x → BlockGives a b h new (Ok came) → TokenGives q c s b old new (Ok tt)
+pub come_more : (q c : Delimiters) (s a b : Option Script) (old h new : Held) (x : List ℕ) (came : Bool)
+    → HasCome q c s a old h x → BlockGives a b h new (Ok came) → TokenGives q c s b old new (Ok tt)
 come_more q c s a b old h new x came r g =
     let y : List ℕ = g.0 in
     let was : (old.pending).may_follow ≡ true = r.read.reads.still r.read.may in
@@ -56,7 +57,8 @@ wants_so q c p n m e =
     ∙ ap (front_by p) e
 
 -- a block came
-module _ (q c : Delimiters) (s a b : Option Script) (old h new : Held) (x : List ℕ) (came : Bool) (r : HasCome q c s a old h x) (none : (h.pending).definition ≡ None) (g : BlockGives a b h new (Ok came)) where
+module _ (q c : Delimiters) (s a b : Option Script) (old h new : Held) (x : List ℕ) (came : Bool)
+    (r : HasCome q c s a old h x) (none : (h.pending).definition ≡ None) (g : BlockGives a b h new (Ok came)) where
   in_hand : new.pending ≡ longer g.0 came h.pending
   in_hand = ap (λ (k : Held). k.pending) g.5
 
@@ -66,7 +68,8 @@ module _ (q c : Delimiters) (s a b : Option Script) (old h new : Held) (x : List
   -- the token that was open may still be
   pub open_then : (o : OpenToken) → IsOpenAt q c o (text_of h.pending) → IsOpenAt q c o (text_of new.pending)
   open_then o i =
-      subst (IsOpenAt q c o) (sym (ap text_of in_hand ∙ sym (append_assoc (h.pending).pushed (h.pending).unread g.0))) (longer_open q c o (text_of h.pending) g.0 i)
+      subst (IsOpenAt q c o) (sym (ap text_of in_hand ∙ sym (append_assoc (h.pending).pushed (h.pending).unread g.0)))
+      (longer_open q c o (text_of h.pending) g.0 i)
 
   pub come_open : came ≡ true → scan q c true (text_of new.pending) ≡ NeedsMore → (y : List ℕ) × HasCome q c s b old new y
   come_open e i =

@@ -17,7 +17,9 @@ use Rattle.m4_tool.specs.World.{Files}
 use Rattle.m4_tool.proofs.OpenedFiles.{all_there}
 
 -- what was read of a reader, and the rest
-read_extends : (before after : Script) (x more : List ℕ) → before ≡ record { bytes = x ++ after.bytes; fails = after.fails } → (before.fails ≡ false → more ≡ []) → ExtendsRead before after (before.bytes ++ more)
+read_extends : (before after : Script) (x more : List ℕ)
+    → before ≡ record { bytes = x ++ after.bytes; fails = after.fails } → (before.fails ≡ false → more ≡ [])
+    → ExtendsRead before after (before.bytes ++ more)
 read_extends before after x more e h = record {
   taken = x;
   more = after.bytes ++ more;
@@ -26,7 +28,8 @@ read_extends before after x more e h = record {
   ended = λ a b. ap (λ (bs : List ℕ). bs ++ more) a ∙ h (ap (λ (s : Script). s.fails) e ∙ b);
 }
 
-opened_extends : (name m : List ℕ) (given : Script) (before after : Option Script) (x : List ℕ) (s : Source) → m ≡ name → before ≡ Some given → before ≡ after_bytes x after → ExtendsFile name (Some given) s → ExtendsOpened m before after s
+opened_extends : (name m : List ℕ) (given : Script) (before after : Option Script) (x : List ℕ) (s : Source) → m ≡ name
+    → before ≡ Some given → before ≡ after_bytes x after → ExtendsFile name (Some given) s → ExtendsOpened m before after s
 opened_extends name m given None after x s n b e h = absurd cc
 opened_extends name m given (Some p) None x s n b e h = absurd cc
 opened_extends name m given (Some p) (Some q) x s n b e h =
@@ -37,7 +40,8 @@ opened_extends name m given (Some p) (Some q) x s n b e h =
     (sym n, subst (λ (t : Script). ExtendsRead p q (t.bytes ++ h.0)) same r)
 
 one_extends : {R : Type 0} (script : R → Option Script) (name : List ℕ) (given : Option Script) (x y : RunSource R) (s : Source)
-    → named_of script x ≡ record { name = name; script = option_map (λ t. Some t) given } → ConsumesOnly script x y → ExtendsFile name given s → ExtendsSource script x y s
+    → named_of script x ≡ record { name = name; script = option_map (λ t. Some t) given } → ConsumesOnly script x y
+    → ExtendsFile name given s → ExtendsSource script x y s
 one_extends script name None (sources.Opened m r) y s e c h =
     absurd (let k : Some (script r) ≡ None = ap (λ (t : NamedSource). t.script) e in cc)
 one_extends script name (Some t) (sources.Opened m r) (sources.Unopened k) s e c h = absurd c
@@ -49,7 +53,8 @@ one_extends script name (Some t) (sources.Unopened m) y s e c h =
     absurd (let k : None ≡ Some (Some t) = ap (λ (u : NamedSource). u.script) e in cc)
 
 -- sources that the files of a line may have been extend what a run read of its sources
-pub all_extend : {R : Type 0} (script : R → Option Script) (files : Files) (input : Script) (names : List (List ℕ)) (xs ys : List (RunSource R)) (ss : List Source)
+pub all_extend : {R : Type 0} (script : R → Option Script) (files : Files) (input : Script) (names : List (List ℕ))
+    (xs ys : List (RunSource R)) (ss : List Source)
     → map (named_of script) xs ≡ named_in files input names → AllConsumeOnly script xs ys → ExtendFiles files input names ss → ExtendSources script xs ys ss
 all_extend script files input [] [] [] [] e c h = tt
 all_extend script files input [] [] [] (s ∷ ss) e c h = absurd h
@@ -64,7 +69,8 @@ all_extend script files input (n ∷ ns) (x ∷ xs) (y ∷ ys) (s ∷ ss) e c h 
 )
 
 -- the sources of a line whose readers don't fail
-whole_there : (name bytes : List ℕ) (fails : Bool) (s : Source) → whole name bytes fails ≡ Some s → (more : List ℕ) × (s ≡ Opened name (bytes ++ more)) × (fails ≡ false → more ≡ [])
+whole_there : (name bytes : List ℕ) (fails : Bool) (s : Source) → whole name bytes fails ≡ Some s
+    → (more : List ℕ) × (s ≡ Opened name (bytes ++ more)) × (fails ≡ false → more ≡ [])
 whole_there name bytes true s e = absurd cc
 whole_there name bytes false s e = ([], ap (λ (o : Option Source). unwrap_or o s) (sym e) ∙ ap (Opened name) (sym (append-nil bytes)), λ _. refl)
 
@@ -72,7 +78,8 @@ file_there : (name : List ℕ) (given : Option Script) (s : Source) → file_sou
 file_there name None s e = ap (λ (o : Option Source). unwrap_or o s) (sym e)
 file_there name (Some script) s e = whole_there name script.bytes script.fails s e
 
-files_there : (files : Files) (input : Script) (names : List (List ℕ)) (ss : List Source) → sources_in files input names ≡ map Some ss → ExtendFiles files input names ss
+files_there : (files : Files) (input : Script) (names : List (List ℕ)) (ss : List Source)
+    → sources_in files input names ≡ map Some ss → ExtendFiles files input names ss
 files_there files input [] [] e = tt
 files_there files input [] (s ∷ ss) e = absurd cc
 files_there files input (n ∷ ns) [] e = absurd cc
@@ -108,4 +115,5 @@ given_by (Starts frozen) o file files input names (Some ss) r a e =
 
 pub line_given : (q : Request) (files : Files) (input : Script) (r : LineResult) → line q files input ≡ Some r → MayGive q files input r
 line_given q files input r e =
-    given_by (thaw_in files q.reload) q.options (unwrap_or q.reload []) files input (words_of q.names) (all_of (sources_in files input (words_of q.names))) r refl e
+    given_by (thaw_in files q.reload) q.options (unwrap_or q.reload []) files input (words_of q.names)
+    (all_of (sources_in files input (words_of q.names))) r refl e

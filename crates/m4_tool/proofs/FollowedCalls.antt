@@ -62,7 +62,8 @@ opened_by script_of reader name (Some s) script e t =
     (s, ap (λ (p : Option (Option Script)). unwrap_or p None) e, sym (ap start_file t))
 
 pub opened_start : {R : Type 0} (script_of : R → Option Script) (reader : R) (files : Files) (reload : Option (List ℕ)) (name : List ℕ) (script : Option Script)
-    → reload ≡ Some name → Some (script_of reader) ≡ option_map (λ s. Some s) (files name) → thaw_in files reload ≡ Starts script → DescribesFrozen script_of (Some reader) script
+    → reload ≡ Some name → Some (script_of reader) ≡ option_map (λ s. Some s) (files name)
+    → thaw_in files reload ≡ Starts script → DescribesFrozen script_of (Some reader) script
 opened_start script_of reader files reload name script k e t =
     opened_by script_of reader name (files name) script e (sym (thawed_same files reload name k) ∙ t)
 
@@ -77,7 +78,8 @@ missing_start files reload name script k e t =
     missing_by name (files name) script e (sym (thawed_same files reload name k) ∙ t)
 
 -- a line that was followed, with what its world and its writers are known to contain
-pub follows_by : (q : Request) (r : LineResult) (status : ℕ) (failure : Option Failure) (a a' b b' : Option (List ℕ)) (f f' : ℕ) (u u' : Option Files) (o o' m m' : List ℕ) (w w' : Files)
+pub follows_by : (q : Request) (r : LineResult) (status : ℕ) (failure : Option Failure) (a a' b b' : Option (List ℕ))
+    (f f' : ℕ) (u u' : Option Files) (o o' m m' : List ℕ) (w w' : Files)
     → a ≡ Some o → a' ≡ Some o' → b ≡ Some m → b' ≡ Some m' → u ≡ Some w → u' ≡ Some w'
     → Follows q r status failure (seen_from a a' b b' f f' u u')
     → Follows q r status failure (seen_from (Some o) (Some o') (Some m) (Some m') f f' (Some w) (Some w'))

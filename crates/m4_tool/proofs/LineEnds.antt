@@ -90,7 +90,8 @@ counted_all c b f g n h = h
 pub record FreezesAtEnd (r : RunResult) : Type 0 where
   pub at_end : (r.reason ≡ Ends causes.Done) ⊎ (r.frozen ≡ None)
 
-by_over : (over : Option EndReason) (freezes : Bool) (saved : List (List ℕ)) (so_far : RunSoFar) (m : Bool) → FreezesAtEnd (result_by over freezes saved so_far m)
+by_over : (over : Option EndReason) (freezes : Bool) (saved : List (List ℕ)) (so_far : RunSoFar) (m : Bool)
+    → FreezesAtEnd (result_by over freezes saved so_far m)
 by_over None freezes saved so_far m = record { at_end = inl refl }
 by_over (Some reason) freezes saved so_far m = record { at_end = inr refl }
 
@@ -104,7 +105,8 @@ pub none_made : (name : List ℕ) (files : Option Files) → option_map (made_fi
 none_made name None = refl
 none_made name (Some f) = refl
 
-kept_made : (name : List ℕ) (frozen : Option (List ℕ)) (old new : Option Files) → frozen ≡ None → new ≡ old → new ≡ option_map (made_file name (unwrap_or frozen [])) old
+kept_made : (name : List ℕ) (frozen : Option (List ℕ)) (old new : Option Files) → frozen ≡ None → new ≡ old
+    → new ≡ option_map (made_file name (unwrap_or frozen [])) old
 kept_made name frozen old new n e = e ∙ sym (none_made name old) ∙ ap (λ (o : Option (List ℕ)). option_map (made_file name (unwrap_or o [])) old) (sym n)
 
 -- whether everything was read
@@ -118,7 +120,9 @@ not_done c r d e f = elim f.at_end [
   | inr k ↦ k
 ]
 
-files_all : (c : Cause) (name : List ℕ) (r : RunResult) (w : Contents) (old new : Option Files) → r.reason ≡ Ends c → FreezesAtEnd r → failure_by c ≡ None → RanFiles c name r w old new → new ≡ option_map (made_file name (unwrap_or r.frozen [])) old
+files_all : (c : Cause) (name : List ℕ) (r : RunResult) (w : Contents) (old new : Option Files) → r.reason ≡ Ends c
+    → FreezesAtEnd r → failure_by c ≡ None → RanFiles c name r w old new
+    → new ≡ option_map (made_file name (unwrap_or r.frozen [])) old
 files_all causes.Done name r w old new e f n h = h
 files_all causes.Write name r w old new e f n h = absurd cc
 files_all causes.Read name r w old new e f n h = absurd cc
@@ -165,7 +169,8 @@ prefixes causes.OutOfMemory r e w g = of_prefix r e w g
 prefixes (causes.Frozen f) r e w g = of_refused f.kind r e w g
 prefixes c r e w g = of_all r e w g
 
-made_prefix : {P : Type 0} → (name text : List ℕ) (old new : Option Files) → P → new ≡ option_map (made_file name text) old → (new ≡ old) ⊎ (HasPrefix name text old new × P)
+made_prefix : {P : Type 0} → (name text : List ℕ) (old new : Option Files) → P
+    → new ≡ option_map (made_file name text) old → (new ≡ old) ⊎ (HasPrefix name text old new × P)
 made_prefix name [] old new p e = inl (e ∙ none_made name old)
 made_prefix name (t ∷ ts) old new p e = inr (record { front = t ∷ ts; rest = []; parts = sym (append-nil (t ∷ ts)); files = e }, p)
 
@@ -209,7 +214,16 @@ status_fail c b f s n = ap (λ (o : Option Failure). status_after o s) n
 
 -- the writers and the files of a line, by those of its run and of its end
 abbrev pub seen_from : Option (List ℕ) → Option (List ℕ) → Option (List ℕ) → Option (List ℕ) → ℕ → ℕ → Option Files → Option Files → Seen
-seen_from o o' m m' f f' w w' = record { out_old = o; out_new = o'; messages_old = m; messages_new = m'; failures_old = f; failures_new = f'; files_old = w; files_new = w' }
+seen_from o o' m m' f f' w w' = record {
+  out_old = o;
+  out_new = o';
+  messages_old = m;
+  messages_new = m';
+  failures_old = f;
+  failures_new = f';
+  files_old = w;
+  files_new = w';
+}
 
 -- the same of the line
 files_seen : (f : Failure) (name file : List ℕ) (r : RunResult) (o0 o2 m0 m1 m2 : Option (List ℕ)) (f0 f2 : ℕ) (w0 w2 : Option Files)
@@ -218,8 +232,11 @@ files_seen failures.Write name file r o0 o2 m0 m1 m2 f0 f2 w0 w2 (inl e) = inl e
 files_seen failures.Write name file r o0 o2 m0 m1 m2 f0 f2 w0 w2 (inr p) = inr (record { output = p.1.output; messages = p.1.messages; file = p.0 })
 files_seen f name file r o0 o2 m0 m1 m2 f0 f2 w0 w2 h = h
 
-as_defined : (name file : List ℕ) (r : RunResult) (c : Cause) (b : Bool) (s : ℕ) (x : Bool) (o0 o1 o2 m0 m1 m2 : Option (List ℕ)) (f0 f1 f2 : ℕ) (w0 w1 w2 : Option Files) (status : ℕ)
-    → FreezesAtEnd r → failure_of c b ≡ None → WroteAll r (record { status = s; cause = c; wrapped = x }) (writers o0 o1 m0 m1) → CountedBy c f0 f1 → RanFiles c name r (writers o0 o1 m0 m1) w0 w1
+as_defined : (name file : List ℕ) (r : RunResult) (c : Cause) (b : Bool) (s : ℕ) (x : Bool)
+    (o0 o1 o2 m0 m1 m2 : Option (List ℕ)) (f0 f1 f2 : ℕ) (w0 w1 w2 : Option Files) (status : ℕ)
+    → FreezesAtEnd r → failure_of c b ≡ None
+    → WroteAll r (record { status = s; cause = c; wrapped = x }) (writers o0 o1 m0 m1) → CountedBy c f0 f1
+    → RanFiles c name r (writers o0 o1 m0 m1) w0 w1
     → status ≡ status_after (failure_of c b) s → o2 ≡ o1 → Reports (added_lines file c b) m1 m2 f1 f2 → w2 ≡ w1
     → AsDefined name (result_of_run file r) status (seen_from o0 o2 m0 m2 f0 f2 w0 w2)
 as_defined name file r c b s x o0 o1 o2 m0 m1 m2 f0 f1 f2 w0 w1 w2 status z n g k h l o p q =
@@ -244,13 +261,17 @@ refuses_as : (file : List ℕ) (c : Cause) (r : RunResult) (s : ℕ) (x : Bool) 
 refuses_as file (causes.Frozen f) r s x w g = refused_as file f f.kind r s x w refl g
 refuses_as file c r s x w g = tt
 
-broke_off : (name file : List ℕ) (r : RunResult) (c : Cause) (b : Bool) (f : Failure) (s : ℕ) (x m : Bool) (o0 o1 o2 m0 m1 m2 : Option (List ℕ)) (f0 f1 f2 : ℕ) (w0 w1 w2 : Option Files) (status : ℕ)
-    → failure_of c b ≡ Some f → RefusesAs file c (result_of_run file r) → GivesBy c r (record { status = s; cause = c; wrapped = x }) (writers o0 o1 m0 m1) → CountedBy c f0 f1 → s ≡ status_of (Ends c) m → RanFiles c name r (writers o0 o1 m0 m1) w0 w1
+broke_off : (name file : List ℕ) (r : RunResult) (c : Cause) (b : Bool) (f : Failure) (s : ℕ) (x m : Bool)
+    (o0 o1 o2 m0 m1 m2 : Option (List ℕ)) (f0 f1 f2 : ℕ) (w0 w1 w2 : Option Files) (status : ℕ)
+    → failure_of c b ≡ Some f → RefusesAs file c (result_of_run file r)
+    → GivesBy c r (record { status = s; cause = c; wrapped = x }) (writers o0 o1 m0 m1) → CountedBy c f0 f1
+    → s ≡ status_of (Ends c) m → RanFiles c name r (writers o0 o1 m0 m1) w0 w1
     → status ≡ status_after (failure_of c b) s → o2 ≡ o1 → Reports (added_lines file c b) m1 m2 f1 f2 → w2 ≡ w1
     → BrokeOff name file (result_of_run file r) status f (seen_from o0 o2 m0 m2 f0 f2 w0 w2)
 broke_off name file r c b f s x m o0 o1 o2 m0 m1 m2 f0 f1 f2 w0 w1 w2 status n d g k t h l o p q = record {
   is_status = l ∙ status_fail c b f s n;
-  output = subst (λ (v : Option (List ℕ)). HasBegun o0 v r.output) (sym o) (prefixes c r (record { status = s; cause = c; wrapped = x }) (writers o0 o1 m0 m1) g).output;
+  output = subst (λ (v : Option (List ℕ)). HasBegun o0 v r.output) (sym o)
+      (prefixes c r (record { status = s; cause = c; wrapped = x }) (writers o0 o1 m0 m1) g).output;
   cause = c;
   flushed = b;
   failed = n;
@@ -303,43 +324,56 @@ no_report (causes.Frozen f) false e = absurd cc
 no_report c true e = no_report_by c e
 no_report c false e = or_write (failure_by c) (no_report_by c) e
 
-ends_by : (failure : Option Failure) (name file : List ℕ) (r : RunResult) (c : Cause) (b : Bool) (s : ℕ) (x m : Bool) (o0 o1 o2 m0 m1 m2 : Option (List ℕ)) (f0 f1 f2 : ℕ) (w0 w1 w2 : Option Files) (status : ℕ)
-    → FreezesAtEnd r → failure ≡ failure_of c b → GivesBy c r (record { status = s; cause = c; wrapped = x }) (writers o0 o1 m0 m1) → CountedBy c f0 f1 → s ≡ status_of (Ends c) m → RanFiles c name r (writers o0 o1 m0 m1) w0 w1
+ends_by : (failure : Option Failure) (name file : List ℕ) (r : RunResult) (c : Cause) (b : Bool) (s : ℕ) (x m : Bool)
+    (o0 o1 o2 m0 m1 m2 : Option (List ℕ)) (f0 f1 f2 : ℕ) (w0 w1 w2 : Option Files) (status : ℕ)
+    → FreezesAtEnd r → failure ≡ failure_of c b
+    → GivesBy c r (record { status = s; cause = c; wrapped = x }) (writers o0 o1 m0 m1) → CountedBy c f0 f1
+    → s ≡ status_of (Ends c) m → RanFiles c name r (writers o0 o1 m0 m1) w0 w1
     → status ≡ status_after (failure_of c b) s → o2 ≡ o1 → Reports (added_lines file c b) m1 m2 f1 f2 → w2 ≡ w1
     → EndsBy failure name file (result_of_run file r) status (seen_from o0 o2 m0 m2 f0 f2 w0 w2)
 ends_by None name file r c b s x m o0 o1 o2 m0 m1 m2 f0 f1 f2 w0 w1 w2 status z n g k t h l o p q =
-    as_defined name file r c b s x o0 o1 o2 m0 m1 m2 f0 f1 f2 w0 w1 w2 status z (sym n) (wrote_all c b r (record { status = s; cause = c; wrapped = x }) (writers o0 o1 m0 m1) (sym n) g) k h l o p q
+    as_defined name file r c b s x o0 o1 o2 m0 m1 m2 f0 f1 f2 w0 w1 w2 status z (sym n)
+    (wrote_all c b r (record { status = s; cause = c; wrapped = x }) (writers o0 o1 m0 m1) (sym n) g) k h l o p q
 ends_by (Some failures.Report) name file r c b s x m o0 o1 o2 m0 m1 m2 f0 f1 f2 w0 w1 w2 status z n g k t h l o p q =
     absurd (no_report c b (sym n))
 ends_by (Some failures.Read) name file r c b s x m o0 o1 o2 m0 m1 m2 f0 f1 f2 w0 w1 w2 status z n g k t h l o p q =
-    broke_off name file r c b failures.Read s x m o0 o1 o2 m0 m1 m2 f0 f1 f2 w0 w1 w2 status (sym n) (refuses_as file c r s x (writers o0 o1 m0 m1) g) g k t h l o p q
+    broke_off name file r c b failures.Read s x m o0 o1 o2 m0 m1 m2 f0 f1 f2 w0 w1 w2 status (sym n)
+    (refuses_as file c r s x (writers o0 o1 m0 m1) g) g k t h l o p q
 ends_by (Some failures.Write) name file r c b s x m o0 o1 o2 m0 m1 m2 f0 f1 f2 w0 w1 w2 status z n g k t h l o p q =
-    broke_off name file r c b failures.Write s x m o0 o1 o2 m0 m1 m2 f0 f1 f2 w0 w1 w2 status (sym n) (refuses_as file c r s x (writers o0 o1 m0 m1) g) g k t h l o p q
+    broke_off name file r c b failures.Write s x m o0 o1 o2 m0 m1 m2 f0 f1 f2 w0 w1 w2 status (sym n)
+    (refuses_as file c r s x (writers o0 o1 m0 m1) g) g k t h l o p q
 ends_by (Some failures.OutOfMemory) name file r c b s x m o0 o1 o2 m0 m1 m2 f0 f1 f2 w0 w1 w2 status z n g k t h l o p q =
-    broke_off name file r c b failures.OutOfMemory s x m o0 o1 o2 m0 m1 m2 f0 f1 f2 w0 w1 w2 status (sym n) (refuses_as file c r s x (writers o0 o1 m0 m1) g) g k t h l o p q
+    broke_off name file r c b failures.OutOfMemory s x m o0 o1 o2 m0 m1 m2 f0 f1 f2 w0 w1 w2 status (sym n)
+    (refuses_as file c r s x (writers o0 o1 m0 m1) g) g k t h l o p q
 ends_by (Some failures.Load) name file r c b s x m o0 o1 o2 m0 m1 m2 f0 f1 f2 w0 w1 w2 status z n g k t h l o p q =
-    broke_off name file r c b failures.Load s x m o0 o1 o2 m0 m1 m2 f0 f1 f2 w0 w1 w2 status (sym n) (refuses_as file c r s x (writers o0 o1 m0 m1) g) g k t h l o p q
+    broke_off name file r c b failures.Load s x m o0 o1 o2 m0 m1 m2 f0 f1 f2 w0 w1 w2 status (sym n)
+    (refuses_as file c r s x (writers o0 o1 m0 m1) g) g k t h l o p q
 
 -- the same if a line for a refused file could not be written
-after_report : (failure : Option Failure) (is_reported : Bool) (name file : List ℕ) (r : LineResult) (status : ℕ) (w : Seen) → EndsBy failure name file r status w
+after_report : (failure : Option Failure) (is_reported : Bool) (name file : List ℕ) (r : LineResult) (status : ℕ)
+    (w : Seen) → EndsBy failure name file r status w
     → (failure ≡ None → is_reported ≡ false → r.lines ≢ []) → EndsBy (failure_after failure is_reported) name file r status w
 after_report None true name file r status w h k = h
 after_report None false name file r status w h k = (h, k refl refl)
 after_report (Some f) b name file r status w h k = h
 
 -- a run that ended and was reported is the line's
-pub ended : (failure : Option Failure) (name file : List ℕ) (r : RunResult) (e : Ending) (o0 o1 o2 m0 m1 m2 : Option (List ℕ)) (f0 f1 f2 : ℕ) (w0 w1 w2 : Option Files) (status : ℕ)
+pub ended : (failure : Option Failure) (name file : List ℕ) (r : RunResult) (e : Ending)
+    (o0 o1 o2 m0 m1 m2 : Option (List ℕ)) (f0 f1 f2 : ℕ) (w0 w1 w2 : Option Files) (status : ℕ)
     → FreezesAtEnd r → RanBy name r e (seen_from o0 o1 m0 m1 f0 f1 w0 w1) → Closes file e status failure (seen_from o1 o2 m1 m2 f1 f2 w1 w2)
     → EndsBy failure name file (result_of_run file r) status (seen_from o0 o2 m0 m2 f0 f2 w0 w2)
 ended failure name file r e o0 o1 o2 m0 m1 m2 f0 f1 f2 w0 w1 w2 status z a d =
-    let h = ends_by (failure_of e.cause d.flushed) name file r e.cause d.flushed e.status e.wrapped a.any_missing o0 o1 o2 m0 m1 m2 f0 f1 f2 w0 w1 w2 status z refl a.gives a.counted a.is_status a.files d.is_status d.output d.reports d.files in
+    let h = ends_by (failure_of e.cause d.flushed) name file r e.cause d.flushed e.status e.wrapped a.any_missing o0 o1
+    o2 m0 m1 m2 f0 f1 f2 w0 w1 w2 status z refl a.gives a.counted a.is_status a.files d.is_status d.output d.reports
+    d.files in
     subst (λ (x : Option Failure). EndsBy x name file (result_of_run file r) status (seen_from o0 o2 m0 m2 f0 f2 w0 w2)) (sym d.failed)
     (after_report (failure_of e.cause d.flushed) d.is_reported name file (result_of_run file r) status (seen_from o0 o2 m0 m2 f0 f2 w0 w2) h
     (λ n x q. d.refused x (ap (refusals_by file) (sym (wrote_all e.cause d.flushed r e (writers o0 o1 m0 m1) n a.gives).reason) ∙ q)))
 
 -- the line of a frozen file that was refused, and then a flush
 pub refusal_reported : (cause : Cause) (fault : FrozenFault) (file : List ℕ) (r : Result (Unit {0}) DeviceFault) (old mid new : Option (List ℕ)) (f g h : ℕ)
-    → cause ≡ causes.Frozen fault → Puts r old mid (refused_line file cause) → g ≡ count_after r f → new ≡ mid → Grew g h → Reports (refusals file cause) old new f h
+    → cause ≡ causes.Frozen fault → Puts r old mid (refused_line file cause) → g ≡ count_after r f → new ≡ mid
+    → Grew g h → Reports (refusals file cause) old new f h
 refusal_reported cause fault file r old mid new f g h is p n k l =
     subst (λ (c : Cause). Puts r old mid (refused_line file c) → Reports (refusals file c) old new f h) (sym is)
     (λ q. (mid, g, record { put = r; puts = q; counted = grew_by r f g n }, (k, l))) p
@@ -348,17 +382,20 @@ pub some_refused : (cause : Cause) (fault : FrozenFault) (file : List ℕ) → c
 some_refused cause fault file is = subst (λ (c : Cause). refusals file c ≢ []) (sym is) (λ q. cc)
 
 -- a line that is not empty
-pub line_reported : (line : List ℕ) (old new : Option (List ℕ)) (f g : ℕ) → (length line == 0) ≡ false → Reports (line ∷ []) old new f g → Reports (lines_of line) old new f g
+pub line_reported : (line : List ℕ) (old new : Option (List ℕ)) (f g : ℕ) → (length line == 0) ≡ false
+    → Reports (line ∷ []) old new f g → Reports (lines_of line) old new f g
 line_reported [] old new f g e p = absurd cc
 line_reported (b ∷ bs) old new f g e p = p
 
 -- the same end, by the names of its parts
-pub ends_as : (failure : Option Failure) (name file file' : List ℕ) (r r' : LineResult) (status : ℕ) (w : Seen) → file ≡ file' → r ≡ r' → EndsBy failure name file r status w → EndsBy failure name file' r' status w
+pub ends_as : (failure : Option Failure) (name file file' : List ℕ) (r r' : LineResult) (status : ℕ) (w : Seen)
+    → file ≡ file' → r ≡ r' → EndsBy failure name file r status w → EndsBy failure name file' r' status w
 ends_as failure name file file' r r' status w e k h =
     subst (λ (x : LineResult). EndsBy failure name file' x status w) k (subst (λ (x : List ℕ). EndsBy failure name x r status w) e h)
 
 -- lines after a flush
-pub reports_after : (xs ys : List (List ℕ)) (a a' b c : Option (List ℕ)) (f f' g h : ℕ) → a' ≡ a → Grew f f' → Reports xs a' b f' g → Reports ys b c g h → Reports (xs ++ ys) a c f h
+pub reports_after : (xs ys : List (List ℕ)) (a a' b c : Option (List ℕ)) (f f' g h : ℕ) → a' ≡ a → Grew f f'
+    → Reports xs a' b f' g → Reports ys b c g h → Reports (xs ++ ys) a c f h
 reports_after xs ys a a' b c f f' g h k l p q =
     reports-before (xs ++ ys) a c f f' h l (subst (λ (o : Option (List ℕ)). Reports (xs ++ ys) o c f' h) k (reports-append xs ys a' b c f' g h p q))
 
@@ -391,11 +428,13 @@ missed_ran name given (Err e) o m m' f f' w p n = record {
   files = inl refl;
 }
 
-pub missed_ends : (failure : Option Failure) (name given file : List ℕ) (r : Result (Unit {0}) DeviceFault) (cause : Cause) (status : ℕ) (o o' m m1 m2 : Option (List ℕ)) (f f1 f2 : ℕ) (w w' : Option Files)
+pub missed_ends : (failure : Option Failure) (name given file : List ℕ) (r : Result (Unit {0}) DeviceFault)
+    (cause : Cause) (status : ℕ) (o o' m m1 m2 : Option (List ℕ)) (f f1 f2 : ℕ) (w w' : Option Files)
     → cause ≡ missed_cause r → Puts r m m1 (cannot_open given) → f1 ≡ count_after r f
     → Closes file (record { status = 1; cause = cause; wrapped = false }) status failure (seen_from o o' m1 m2 f1 f2 w w')
     → EndsBy failure name file (unreloaded given) status (seen_from o o' m m2 f f2 w w')
 missed_ends failure name given file r cause status o o' m m1 m2 f f1 f2 w w' c p n k =
-    ended failure name file (missed_run given) (record { status = 1; cause = missed_cause r; wrapped = false }) o o o' m m1 m2 f f1 f2 w w w' status (missed_freezes given)
+    ended failure name file (missed_run given) (record { status = 1; cause = missed_cause r; wrapped = false }) o o o' m
+    m1 m2 f f1 f2 w w w' status (missed_freezes given)
     (missed_ran name given r o m m1 f f1 w p n)
     (subst (λ (x : Cause). Closes file (record { status = 1; cause = x; wrapped = false }) status failure (seen_from o o' m1 m2 f1 f2 w w')) c k)

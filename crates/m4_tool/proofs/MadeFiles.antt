@@ -21,7 +21,9 @@ pub with_more_file : (name bytes more : List ℕ) (files : Files) → with_more 
 with_more_file name bytes more files = fun_ext (λ n. longer_by (bytes_eq n name) bytes more (files n))
 
 -- more bytes after those that were written
-pub more_after : (name bytes more : List ℕ) (before : Option Files) → option_map (with_more name more) (option_map (with_file name bytes) before) ≡ option_map (with_file name (bytes ++ more)) before
+pub more_after : (name bytes more : List ℕ) (before : Option Files)
+    → option_map (with_more name more) (option_map (with_file name bytes) before)
+    ≡ option_map (with_file name (bytes ++ more)) before
 more_after name bytes more None = refl
 more_after name bytes more (Some files) = ap (λ (f : Files). Some f) (with_more_file name bytes more files)
 
@@ -31,7 +33,8 @@ pub record Begun (name : List ℕ) (before old mid : Option Files) (created : Bo
   pub files : mid ≡ option_map (with_file name bytes) before
   pub was : written created name old ≡ option_map (λ _. bytes) before
 
-was_at : (name : List ℕ) (before old : Option Files) (b : List ℕ) → old ≡ option_map (with_file name b) before → written true name old ≡ option_map (λ _. unwrap_or (written true name old) []) before
+was_at : (name : List ℕ) (before old : Option Files) (b : List ℕ) → old ≡ option_map (with_file name b) before
+    → written true name old ≡ option_map (λ _. unwrap_or (written true name old) []) before
 was_at name None old b e = rw e refl
 was_at name (Some f) old b e = rw e refl
 
@@ -42,7 +45,12 @@ none_at name (Some f) old e = rw e refl
 begun_by : (name : List ℕ) (before old mid : Option Files) (created : Bool)
     → old ≡ after_writing created name (written created name old) before → mid ≡ begun_in created name old → Begun name before old mid created
 begun_by name before old mid false e m = record { bytes = []; files = m ∙ ap (option_map (with_file name [])) e; was = none_at name before old e }
-begun_by name before old mid true e m = record { bytes = unwrap_or (written true name old) []; files = m ∙ e; was = was_at name before old (unwrap_or (written true name old) []) e }
+begun_by name before old mid true e m =
+    record {
+      bytes = unwrap_or (written true name old) [];
+      files = m ∙ e;
+      was = was_at name before old (unwrap_or (written true name old) []) e;
+    }
 
 -- the name doesn't matter if the files are not known
 named_begun : (name given : List ℕ) (before old : Option Files) (created : Bool) → old ≡ after_writing created name (written created name old) before
@@ -64,25 +72,33 @@ bytes_eq-same name = (bytes_eq-Decides name name).1 refl
 here_by : (name bytes : List ℕ) (files : Files) → bytes_of (with_file name bytes files name) ≡ bytes
 here_by name bytes files = rw (bytes_eq-same name) refl
 
-pub written_at : (name bytes : List ℕ) (before now : Option Files) → now ≡ option_map (with_file name bytes) before → written true name now ≡ option_map (λ _. bytes) before
+pub written_at : (name bytes : List ℕ) (before now : Option Files) → now ≡ option_map (with_file name bytes) before
+    → written true name now ≡ option_map (λ _. bytes) before
 written_at name bytes None now e = rw e refl
 written_at name bytes (Some f) now e = rw e (ap (λ (bs : List ℕ). Some bs) (here_by name bytes f))
 
 -- the files and the bytes agree
-pub stands_at : (name bytes : List ℕ) (before now : Option Files) → now ≡ option_map (with_file name bytes) before → now ≡ after_writing true name (written true name now) before
+pub stands_at : (name bytes : List ℕ) (before now : Option Files) → now ≡ option_map (with_file name bytes) before
+    → now ≡ after_writing true name (written true name now) before
 stands_at name bytes None now e = e
-stands_at name bytes (Some f) now e = e ∙ ap (λ (o : Option (List ℕ)). option_map (with_file name (unwrap_or o [])) (Some f)) (sym (written_at name bytes (Some f) now e))
+stands_at name bytes (Some f) now e = e
+    ∙ ap (λ (o : Option (List ℕ)). option_map (with_file name (unwrap_or o [])) (Some f))
+    (sym (written_at name bytes (Some f) now e))
 
 some_put : (bytes more : List ℕ) (failures : ℕ) → 0 < length more → is_tried true failures (Some (bytes ++ more)) ≡ true
 some_put [] [] failures lt = absurd (omega (arith, lt))
 some_put [] (m ∷ ms) failures lt = refl
 some_put (b ∷ bs) more failures lt = refl
 
-pub tried_at : (name bytes more : List ℕ) (before now : Option Files) (failures : ℕ) → now ≡ option_map (with_file name (bytes ++ more)) before → 0 < length more → is_tried true failures (written true name now) ≡ true
+pub tried_at : (name bytes more : List ℕ) (before now : Option Files) (failures : ℕ)
+    → now ≡ option_map (with_file name (bytes ++ more)) before → 0 < length more
+    → is_tried true failures (written true name now) ≡ true
 tried_at name bytes more None now failures e lt = rw (written_at name (bytes ++ more) None now e) refl
 tried_at name bytes more (Some f) now failures e lt = rw (written_at name (bytes ++ more) (Some f) now e) (some_put bytes more failures lt)
 
-pub more_at : (name more : List ℕ) (before old mid now : Option Files) (created : Bool) → (b : Begun name before old mid created) → now ≡ option_map (with_more name more) mid → now ≡ option_map (with_file name (b.bytes ++ more)) before
+pub more_at : (name more : List ℕ) (before old mid now : Option Files) (created : Bool)
+    → (b : Begun name before old mid created) → now ≡ option_map (with_more name more) mid
+    → now ≡ option_map (with_file name (b.bytes ++ more)) before
 more_at name more before old mid now created b e = e ∙ ap (option_map (with_more name more)) b.files ∙ more_after name b.bytes more before
 
 with_more_bytes : (bytes more : List ℕ) (before : Option Files) → option_map (λ _. bytes ++ more) before ≡ with_bytes (option_map (λ _. bytes) before) more
@@ -90,14 +106,17 @@ with_more_bytes bytes more None = refl
 with_more_bytes bytes more (Some f) = refl
 
 -- what is written after a put
-pub takes_more : (name more : List ℕ) (before old mid now : Option Files) (created : Bool) → (b : Begun name before old mid created) → now ≡ option_map (with_more name more) mid → written true name now ≡ with_bytes (written created name old) more
+pub takes_more : (name more : List ℕ) (before old mid now : Option Files) (created : Bool)
+    → (b : Begun name before old mid created) → now ≡ option_map (with_more name more) mid
+    → written true name now ≡ with_bytes (written created name old) more
 takes_more name more before old mid now created b e =
     written_at name (b.bytes ++ more) before now (more_at name more before old mid now created b e)
     ∙ with_more_bytes b.bytes more before
     ∙ ap (λ (o : Option (List ℕ)). with_bytes o more) (sym b.was)
 
 -- a put that failed
-pub takes_none : (name : List ℕ) (before old mid now : Option Files) (created : Bool) → (b : Begun name before old mid created) → now ≡ mid → written true name now ≡ written created name old
+pub takes_none : (name : List ℕ) (before old mid now : Option Files) (created : Bool)
+    → (b : Begun name before old mid created) → now ≡ mid → written true name now ≡ written created name old
 takes_none name before old mid now created b e = written_at name b.bytes before now (e ∙ b.files) ∙ sym b.was
 
 named_more : (name given more bytes : List ℕ) (before mid : Option Files) → mid ≡ option_map (with_file name bytes) before

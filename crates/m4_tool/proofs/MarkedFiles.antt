@@ -19,7 +19,8 @@ again_by false x y s = refl
 with_file_again : (name bytes old : List ℕ) (files : Files) → with_file name bytes (with_file name old files) ≡ with_file name bytes files
 with_file_again name bytes old files = fun_ext (λ n. again_by (bytes_eq n name) (whole_file bytes) (whole_file old) (files n))
 
-again_in : (name bytes old : List ℕ) (files : Option Files) → option_map (with_file name bytes) (option_map (with_file name old) files) ≡ option_map (with_file name bytes) files
+again_in : (name bytes old : List ℕ) (files : Option Files)
+    → option_map (with_file name bytes) (option_map (with_file name old) files) ≡ option_map (with_file name bytes) files
 again_in name bytes old None = refl
 again_in name bytes old (Some f) = ap (λ (g : Files). Some g) (with_file_again name bytes old f)
 
@@ -39,21 +40,11 @@ pub leaves_on : (name : List ℕ) (before old new : Option Files) → LeavesMark
 leaves_on name before old new (inl e) k = subst (λ (o : Option Files). LeavesMarked name o new) e k
 leaves_on name before old new (inr h) k = inr (still_marked name before old new h k)
 
--- the same, by the names of its parts
-pub leaves_as : (name name' : List ℕ) (old old' new : Option Files) → name ≡ name' → old ≡ old' → LeavesMarked name old new → LeavesMarked name' old' new
-leaves_as name name' old old' new n k h =
-    subst (λ (o : Option Files). LeavesMarked name' o new) k (subst (λ (x : List ℕ). LeavesMarked x old new) n h)
-
--- what a late file knows of what is there
-pub leaves_by : (name : List ℕ) (before now : Option Files) (created : Bool) → now ≡ after_writing created name (written created name now) before
-    → is_marked (text_of (written created name now)) ≡ true → LeavesMarked name before now
-leaves_by name before now false e m = inl e
-leaves_by name before now true e m = inr (record { bytes = text_of (written true name now); marked = m; files = e })
-
 pub marked_stands : (name : List ℕ) (before now : Option Files) → HasMarked name before now → now ≡ after_writing true name (written true name now) before
 marked_stands name before now h = stands_at name h.bytes before now h.files
 
-marked_in : (name bytes : List ℕ) (before now : Option Files) → is_marked bytes ≡ true → now ≡ option_map (with_file name bytes) before → is_marked (text_of (written true name now)) ≡ true
+marked_in : (name bytes : List ℕ) (before now : Option Files) → is_marked bytes ≡ true
+    → now ≡ option_map (with_file name bytes) before → is_marked (text_of (written true name now)) ≡ true
 marked_in name bytes None now m e = rw (written_at name bytes None now e) refl
 marked_in name bytes (Some f) now m e = rw (written_at name bytes (Some f) now e) m
 
@@ -61,7 +52,8 @@ pub marked_text : (name : List ℕ) (before now : Option Files) → HasMarked na
 marked_text name before now h = marked_in name h.bytes before now h.marked h.files
 
 -- a run, and its end
-pub leaves_at_end : {F : Type 0} (P : F → Type 0) (failure : Option F) (name given : List ℕ) (before mid now : Option Files) → given ≡ name → LeavesMarked name before mid
+pub leaves_at_end : {F : Type 0} (P : F → Type 0) (failure : Option F) (name given : List ℕ)
+    (before mid now : Option Files) → given ≡ name → LeavesMarked name before mid
     → IfSome failure (λ f. P f → LeavesMarked given mid now) → IfSome failure (λ f. P f → LeavesMarked name before now)
 leaves_at_end P None name given before mid now e h k = k
 leaves_at_end P (Some f) name given before mid now e h k = λ p.

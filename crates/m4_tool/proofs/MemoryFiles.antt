@@ -16,5 +16,7 @@ memory_longer name given old new more made gs n m e =
     ∙ ap (λ (o : Option (List ℕ)). with_more name more (memory_files name o gs)) (sym m)
     ∙ ap (λ (g : List ℕ). with_more g more (memory_files name made gs)) n
 
-pub given_here : (gs : List Given) (i : ℕ) (x : Given) (n : List ℕ) → i < length gs → bytes_eq n (get_or gs i x).name.now ≡ true → given_files gs n ≡ given_files (drop i gs) n → given_files gs n ≡ Some (record { bytes = (get_or gs i x).bytes.now; fails = (get_or gs i x).fails })
+pub given_here : (gs : List Given) (i : ℕ) (x : Given) (n : List ℕ) → i < length gs
+    → bytes_eq n (get_or gs i x).name.now ≡ true → given_files gs n ≡ given_files (drop i gs) n
+    → given_files gs n ≡ Some (record { bytes = (get_or gs i x).bytes.now; fails = (get_or gs i x).fails })
 given_here gs i x n lt t e = e ∙ ap (λ (xs : List Given). given_files xs n) (at_place gs i x lt) ∙ rw t refl

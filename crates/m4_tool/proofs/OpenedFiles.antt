@@ -16,12 +16,14 @@ use Rattle.m4_tool.specs.LineRun.{NamedSource, named_at, named_in, named_of}
 use Rattle.m4_tool.proofs.Places.{at_place}
 
 -- the files before a place were opened
-pub record Opening {R A : Type 0} (script : R → Option Script) (bytes_of : A → List ℕ) (files : Files) (input : Script) (names : List A) (i : ℕ) (sources : List (RunSource R)) (now : Option Script) : Type 0 where
+pub record Opening {R A : Type 0} (script : R → Option Script) (bytes_of : A → List ℕ) (files : Files) (input : Script)
+    (names : List A) (i : ℕ) (sources : List (RunSource R)) (now : Option Script) : Type 0 where
   pub left : Script
   pub is : now ≡ Some left
   pub are : map (named_of script) sources ++ named_in files left (map bytes_of (drop i names)) ≡ named_in files input (map bytes_of names)
 
-pub one_opened : {R A : Type 0} (script : R → Option Script) (bytes_of : A → List ℕ) (files : Files) (input : Script) (names : List A) (i : ℕ) (sources : List (RunSource R)) (now now' : Option Script) (s : RunSource R) (d : A)
+pub one_opened : {R A : Type 0} (script : R → Option Script) (bytes_of : A → List ℕ) (files : Files) (input : Script)
+    (names : List A) (i : ℕ) (sources : List (RunSource R)) (now now' : Option Script) (s : RunSource R) (d : A)
     → i < length names → (o : Opening script bytes_of files input names i sources now)
     → named_of script s ≡ named_at files o.left (bytes_of (get_or names i d)) → now' ≡ Some (input_after o.left (bytes_of (get_or names i d)))
     → Opening script bytes_of files input names (i + 1) (sources ++ s ∷ []) now'
@@ -38,13 +40,17 @@ one_opened {A = A} script bytes_of files input names i sources now now' s d lt o
           ∙ o.are;
     }
 
-pub all_opened : {R A : Type 0} (script : R → Option Script) (bytes_of : A → List ℕ) (files : Files) (input : Script) (names : List A) (i : ℕ) (sources : List (RunSource R)) (now : Option Script)
+pub all_opened : {R A : Type 0} (script : R → Option Script) (bytes_of : A → List ℕ) (files : Files) (input : Script)
+    (names : List A) (i : ℕ) (sources : List (RunSource R)) (now : Option Script)
     → length names ≤ i → Opening script bytes_of files input names i sources now → map (named_of script) sources ≡ named_in files input (map bytes_of names)
 all_opened {A = A} script bytes_of files input names i sources now le o =
-    sym (append-nil (map (named_of script) sources)) ∙ ap (λ (ns : List A). map (named_of script) sources ++ named_in files o.left (map bytes_of ns)) (sym (drop_all i names le)) ∙ o.are
+    sym (append-nil (map (named_of script) sources))
+    ∙ ap (λ (ns : List A). map (named_of script) sources ++ named_in files o.left (map bytes_of ns))
+    (sym (drop_all i names le)) ∙ o.are
 
 -- all of the sources
-some_and : (s : Option Source) (xs : List (Option Source)) (rest : Option (List Source)) (ss : List Source) → ((ts : List Source) → rest ≡ Some ts → xs ≡ map Some ts) → and_then s rest ≡ Some ss → s ∷ xs ≡ map Some ss
+some_and : (s : Option Source) (xs : List (Option Source)) (rest : Option (List Source)) (ss : List Source)
+    → ((ts : List Source) → rest ≡ Some ts → xs ≡ map Some ts) → and_then s rest ≡ Some ss → s ∷ xs ≡ map Some ss
 some_and None xs rest ss h e = absurd cc
 some_and (Some s) xs None ss h e = absurd cc
 some_and (Some s) xs (Some ts) ss h e =
@@ -55,7 +61,9 @@ all_there [] ss e = ap (λ (o : Option (List Source)). map Some (unwrap_or o [])
 all_there (x ∷ xs) ss e = some_and x xs (all_of xs) ss (λ ts f. all_there xs ts f) e
 
 -- a line without a frozen file has the result of a run
-pub fresh_result : (files : Files) (reload : Option (List ℕ)) (o : Options) (file : List ℕ) (ss : List Source) (r : LineResult) → reload ≡ None → result_by (thaw_in files reload) o file (Some ss) ≡ Some r → result_of_run file (run o None ss) ≡ r
+pub fresh_result : (files : Files) (reload : Option (List ℕ)) (o : Options) (file : List ℕ) (ss : List Source)
+    (r : LineResult) → reload ≡ None → result_by (thaw_in files reload) o file (Some ss) ≡ Some r
+    → result_of_run file (run o None ss) ≡ r
 fresh_result files None o file ss r k e = ap (λ (p : Option LineResult). unwrap_or p (result_of_run file (run o None ss))) e
 fresh_result files (Some name) o file ss r k e = absurd cc
 
@@ -65,7 +73,8 @@ pub record Reloads {R : Type 0} (script : R → Option Script) (reader : R) (o :
   pub describes : DescribesFrozen script (Some reader) frozen
   pub result : result_of_run file (run o frozen ss) ≡ r
 
-pub reloads_so : {R : Type 0} (script : R → Option Script) (reader : R) (name : List ℕ) (given : Option Script) (o : Options) (file : List ℕ) (ss : List Source) (r : LineResult)
+pub reloads_so : {R : Type 0} (script : R → Option Script) (reader : R) (name : List ℕ) (given : Option Script)
+    (o : Options) (file : List ℕ) (ss : List Source) (r : LineResult)
     → Some (script reader) ≡ option_map (λ s. Some s) given → result_by (thawed_by name given) o file (Some ss) ≡ Some r → Reloads script reader o file ss r
 reloads_so script reader name None o file ss r e l = absurd cc
 reloads_so script reader name (Some s) o file ss r e l = record {
@@ -81,7 +90,9 @@ missing_so name None o file all r e l = ap (λ (p : Option LineResult). unwrap_o
 missing_so name (Some s) o file all r e l = absurd cc
 
 -- the frozen file by its name
-pub thawed_at : (files : Files) (reload : Option (List ℕ)) (name : List ℕ) (o : Options) (file : List ℕ) (all : Option (List Source)) (r : LineResult) → reload ≡ Some name → result_by (thaw_in files reload) o file all ≡ Some r → result_by (thawed_by name (files name)) o file all ≡ Some r
+pub thawed_at : (files : Files) (reload : Option (List ℕ)) (name : List ℕ) (o : Options) (file : List ℕ)
+    (all : Option (List Source)) (r : LineResult) → reload ≡ Some name
+    → result_by (thaw_in files reload) o file all ≡ Some r → result_by (thawed_by name (files name)) o file all ≡ Some r
 thawed_at files None name o file all r k e = absurd cc
 thawed_at files (Some m) name o file all r k e =
     let same : m ≡ name = ap (λ (p : Option (List ℕ)). unwrap_or p []) k in

@@ -20,7 +20,8 @@ use Rattle.m4_tool.specs.LineRun.{Closes, NamedSource, failure_after, named_in, 
 use Rattle.m4_tool.specs.World.{Files}
 
 -- a reader whose bytes are known failed after them
-fails_so : (before after : Option Script) (x : List ℕ) (given : Script) → before ≡ Some given → before ≡ after_bytes x after → IsAtFault after → given.fails ≡ true
+fails_so : (before after : Option Script) (x : List ℕ) (given : Script) → before ≡ Some given
+    → before ≡ after_bytes x after → IsAtFault after → given.fails ≡ true
 fails_so before None x given b e f = absurd (let k : None ≡ Some given = sym e ∙ b in cc)
 fails_so before (Some s) x given b e f =
     let k : Some given ≡ Some (record { bytes = x ++ s.bytes; fails = s.fails }) = sym b ∙ e in
@@ -46,8 +47,10 @@ any_fails script count files input (n ∷ ns) (x ∷ xs) (y ∷ ys) e c (inl h) 
 any_fails script count files input (n ∷ ns) (x ∷ xs) (y ∷ ys) e c (inr h) =
     inr (any_fails script count files (input_after input n) ns xs ys (ap (λ (l : List NamedSource). drop 1 l) e) c.1 h)
 
-pub run_fails : {R : Type 0} (script : R → Option Script) (count : R → ℕ) (files : Files) (input : Script) (names : List (List ℕ)) (xs ys : List (RunSource R)) (cause : Cause)
-    → map (named_of script) xs ≡ named_in files input names → AllConsumeOnly script xs ys → ReadersFailBy script count cause xs ys → cause ≡ causes.Read → AnyFails files input names
+pub run_fails : {R : Type 0} (script : R → Option Script) (count : R → ℕ) (files : Files) (input : Script)
+    (names : List (List ℕ)) (xs ys : List (RunSource R)) (cause : Cause)
+    → map (named_of script) xs ≡ named_in files input names → AllConsumeOnly script xs ys
+    → ReadersFailBy script count cause xs ys → cause ≡ causes.Read → AnyFails files input names
 run_fails script count files input names xs ys cause e c h r =
     any_fails script count files input names xs ys e c (subst (λ (k : Cause). ReadersFailBy script count k xs ys) r h)
 
@@ -70,5 +73,6 @@ read_by c true true e = absurd cc
 read_by c true false e = absurd cc
 read_by c false reported e = absurd cc
 
-pub closes_read : (file : List ℕ) (e : Ending) (status : ℕ) (failure : Option Failure) (w : Seen) → Closes file e status failure w → failure ≡ Some failures.Read → e.cause ≡ causes.Read
+pub closes_read : (file : List ℕ) (e : Ending) (status : ℕ) (failure : Option Failure) (w : Seen)
+    → Closes file e status failure w → failure ≡ Some failures.Read → e.cause ≡ causes.Read
 closes_read file e status failure w h r = read_by e.cause h.flushed h.is_reported (sym h.failed ∙ r)

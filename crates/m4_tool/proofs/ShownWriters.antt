@@ -1,5 +1,5 @@
 -- Writers that were flushed, or failed.
-use Rattle.std.proofs.Common.{◌≡◌, ℕ, List, Option, inl, inr, refl, subst, sym}
+use Rattle.std.proofs.Common.{◌≡◌, ℕ, List, Option, inl, inr}
 use Rattle.std.specs.Prelude.{Result, Ok, Err, OnOk}
 use Rattle.m4_state.specs.Device.{count_after}
 use Rattle.m4_tool.specs.declared.fault.ModeFault.{ModeFault}
@@ -28,6 +28,7 @@ mode_output_grew (Err faults.Issues) r r' f g h = grew_none f g h.1
 mode_output_grew (Err faults.Write) r r' f g h = grew_one f g h.1
 mode_output_grew (Err faults.OutOfMemory) r r' f g h = grew_none f g h.1
 
-pub mode_messages_grew : (end : Result (Unit {0}) ModeFault) (file : List ℕ) (old new : Option (List ℕ)) (f g : ℕ) → ReportsFault end file old new f g → Grew f g
+pub mode_messages_grew : (end : Result (Unit {0}) ModeFault) (file : List ℕ) (old new : Option (List ℕ)) (f g : ℕ)
+    → ReportsFault end file old new f g → Grew f g
 mode_messages_grew (Ok done) file old new f g h = grew_none f g h.1
 mode_messages_grew (Err fault) file old new f g h = grew_after h.0 f g h.2

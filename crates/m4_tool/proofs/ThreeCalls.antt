@@ -52,8 +52,11 @@ differs false name s e n = e
 are_others : (s : List ℕ) (ns : List (List ℕ)) → All (λ name. (name ≢ codes "-") × (name ≢ s)) ns → AreOthers s ns
 are_others s [] h = tt
 are_others s (n ∷ ns) h =
-    let k = All-head (λ name. (name ≢ codes "-") × (name ≢ s)) n ns h in
-    (differs (bytes_eq n (codes "-")) n (codes "-") refl k.0, differs (bytes_eq n s) n s refl k.1, are_others s ns (All-tail (λ name. (name ≢ codes "-") × (name ≢ s)) n ns h))
+    let k = All-head (λ name. (name ≢ codes "-") × (name ≢ s)) n ns h in (
+      differs (bytes_eq n (codes "-")) n (codes "-") refl k.0,
+      differs (bytes_eq n s) n s refl k.1,
+      are_others s ns (All-tail (λ name. (name ≢ codes "-") × (name ≢ s)) n ns h),
+    )
 
 -- the sources of two lists of words
 abbrev inputs_after : Script → List (List ℕ) → Script
@@ -87,17 +90,20 @@ words_twice (a ∷ as') ns = refl
 
 -- ---- the sources of two lists of words
 
-extend_append : (files : Files) (i : Script) (ms ns : List (List ℕ)) (xs ys : List Source) → ExtendFiles files i ms xs → ExtendFiles files (inputs_after i ms) ns ys → ExtendFiles files i (ms ++ ns) (xs ++ ys)
+extend_append : (files : Files) (i : Script) (ms ns : List (List ℕ)) (xs ys : List Source) → ExtendFiles files i ms xs
+    → ExtendFiles files (inputs_after i ms) ns ys → ExtendFiles files i (ms ++ ns) (xs ++ ys)
 extend_append files i [] ns [] ys h k = k
 extend_append files i [] ns (x ∷ xs) ys h k = absurd h
 extend_append files i (m ∷ ms) ns [] ys h k = absurd h
 extend_append files i (m ∷ ms) ns (x ∷ xs) ys h k = (h.0, extend_append files (input_after i m) ms ns xs ys h.1 k)
 
 -- they may be the same in files that differ in s alone
-script_other : (s text : List ℕ) (files : Files) (i j : Script) (n : List ℕ) → is_input n ≡ false → bytes_eq n s ≡ false → script_at (made_file s text files) j n ≡ script_at files i n
+script_other : (s text : List ℕ) (files : Files) (i j : Script) (n : List ℕ) → is_input n ≡ false → bytes_eq n s ≡ false
+    → script_at (made_file s text files) j n ≡ script_at files i n
 script_other s text files i j n e k = rw e (file_other s text files n k)
 
-extend_other : (s text : List ℕ) (files : Files) (i j : Script) (ns : List (List ℕ)) (ss : List Source) → AreOthers s ns → ExtendFiles (made_file s text files) j ns ss → ExtendFiles files i ns ss
+extend_other : (s text : List ℕ) (files : Files) (i j : Script) (ns : List (List ℕ)) (ss : List Source) → AreOthers s ns
+    → ExtendFiles (made_file s text files) j ns ss → ExtendFiles files i ns ss
 extend_other s text files i j [] [] o h = tt
 extend_other s text files i j [] (x ∷ ss) o h = absurd h
 extend_other s text files i j (n ∷ ns) [] o h = absurd h
@@ -114,13 +120,19 @@ pub record Ran (c : Call) (q : Request) (w : Files) (script : Option Script) (ss
   pub ends : EndsRun q.options script ss c.ending
   pub is_status : c.status ≡ (run q.options script ss).status
   pub output : c.out_new ≡ c.out_old ++ (run q.options script ss).output
-  pub messages : Reports (refusals_by (reload_name q) (run q.options script ss).reason) (Some (c.messages_old ++ (run q.options script ss).messages)) (Some c.messages_new) failures_old failures_new
+  pub messages : Reports (refusals_by (reload_name q) (run q.options script ss).reason)
+      (Some (c.messages_old ++ (run q.options script ss).messages)) (Some c.messages_new) failures_old failures_new
   pub files : c.files_new ≡ made_file (freeze_name q) (unwrap_or (run q.options script ss).frozen []) w
 
-defined_by : (c : Call) (f : Option Failure) (r : LineResult) (h : IsFollowed c) → f ≡ None → EndsBy f (freeze_name c.request) (reload_name c.request) r c.status (seen_by h.failures_old h.failures_new c) → AsDefined (freeze_name c.request) r c.status (seen_by h.failures_old h.failures_new c)
-defined_by c f r h n e = subst (λ (x : Option Failure). EndsBy x (freeze_name c.request) (reload_name c.request) r c.status (seen_by h.failures_old h.failures_new c)) n e
+defined_by : (c : Call) (f : Option Failure) (r : LineResult) (h : IsFollowed c) → f ≡ None
+    → EndsBy f (freeze_name c.request) (reload_name c.request) r c.status (seen_by h.failures_old h.failures_new c)
+    → AsDefined (freeze_name c.request) r c.status (seen_by h.failures_old h.failures_new c)
+defined_by c f r h n e = subst (λ (x : Option Failure). EndsBy x (freeze_name c.request) (reload_name c.request) r
+    c.status (seen_by h.failures_old h.failures_new c)) n e
 
-ran : (c : Call) → IsFollowed c → c.failure ≡ None → (script : Option Script) (ss : List Source) → thaw_in c.files (c.request).reload ≡ Starts script → ExtendFiles c.files c.input (words_of (c.request).names) ss → Ran c c.request c.files script ss
+ran : (c : Call) → IsFollowed c → c.failure ≡ None → (script : Option Script) (ss : List Source)
+    → thaw_in c.files (c.request).reload ≡ Starts script → ExtendFiles c.files c.input (words_of (c.request).names) ss
+    → Ran c c.request c.files script ss
 ran c h n script ss t e =
     let r : LineResult = result_of_run (reload_name c.request) (run (c.request).options script ss) in
     let d : AsDefined (freeze_name c.request) r c.status (seen_by h.failures_old h.failures_new c) =
@@ -135,7 +147,9 @@ ran c h n script ss t e =
       files = some_in _ _ d.files;
     }
 
-ran_as : (c : Call) (q : Request) (w : Files) (i : Script) → IsFollowed c → c.failure ≡ None → c.request ≡ q → c.files ≡ w → c.input ≡ i → (script : Option Script) (ss : List Source) → thaw_in w q.reload ≡ Starts script → ExtendFiles w i (words_of q.names) ss → Ran c q w script ss
+ran_as : (c : Call) (q : Request) (w : Files) (i : Script) → IsFollowed c → c.failure ≡ None → c.request ≡ q
+    → c.files ≡ w → c.input ≡ i → (script : Option Script) (ss : List Source) → thaw_in w q.reload ≡ Starts script
+    → ExtendFiles w i (words_of q.names) ss → Ran c q w script ss
 ran_as c q w i h n k l m script ss =
     subst (λ (j : Script). thaw_in w q.reload ≡ Starts script → ExtendFiles w j (words_of q.names) ss → Ran c q w script ss) m
     (subst (λ (v : Files). thaw_in v q.reload ≡ Starts script → ExtendFiles v c.input (words_of q.names) ss → Ran c q v script ss) l
@@ -151,10 +165,16 @@ starts c h n z = go (thaw_in c.files (c.request).reload) refl
     go (Missing name) e =
         let ss = files_given c.files c.input (words_of (c.request).names) in
         let d : AsDefined (freeze_name c.request) (unreloaded name) c.status (seen_by h.failures_old h.failures_new c) =
-        defined_by c c.failure (unreloaded name) h n (h.extends (unreloaded name) (ss.0, ss.1, ap (λ (v : Thawed). result_by v (c.request).options (reload_name c.request) (Some ss.0)) e)) in
+        defined_by c c.failure (unreloaded name) h n
+        (h.extends (unreloaded name) (
+          ss.0,
+          ss.1,
+          ap (λ (v : Thawed). result_by v (c.request).options (reload_name c.request) (Some ss.0)) e,
+        )) in
         absurd (let k : 1 ≡ 0 = sym d.is_status ∙ z in cc)
 
-starts_as : (c : Call) (q : Request) → IsFollowed c → c.failure ≡ None → c.request ≡ q → c.status ≡ 0 → (script : Option Script) × (thaw_in c.files q.reload ≡ Starts script)
+starts_as : (c : Call) (q : Request) → IsFollowed c → c.failure ≡ None → c.request ≡ q → c.status ≡ 0
+    → (script : Option Script) × (thaw_in c.files q.reload ≡ Starts script)
 starts_as c q h n k z = subst (λ (p : Request). (script : Option Script) × (thaw_in c.files p.reload ≡ Starts script)) k (starts c h n z)
 
 -- ---- endings
@@ -183,27 +203,34 @@ no_lines file NeedsInput e = refl
 no_lines file OutOfBound e = refl
 
 -- no line is added to its messages
-messages_are : (c : Call) (q : Request) (w : Files) (script : Option Script) (ss : List Source) → Ran c q w script ss → is_refusal (run q.options script ss).reason ≡ false → c.messages_new ≡ c.messages_old ++ (run q.options script ss).messages
+messages_are : (c : Call) (q : Request) (w : Files) (script : Option Script) (ss : List Source) → Ran c q w script ss
+    → is_refusal (run q.options script ss).reason ≡ false → c.messages_new ≡ c.messages_old ++ (run q.options script ss).messages
 messages_are c q w script ss h e =
-    let p = subst (λ (ls : List (List ℕ)). Reports ls (Some (c.messages_old ++ (run q.options script ss).messages)) (Some c.messages_new) h.failures_old h.failures_new) (no_lines (reload_name q) (run q.options script ss).reason e) h.messages in
+    let p = subst (λ (ls : List (List ℕ)). Reports ls (Some (c.messages_old ++ (run q.options script ss).messages))
+    (Some c.messages_new) h.failures_old h.failures_new)
+    (no_lines (reload_name q) (run q.options script ss).reason e) h.messages in
     some_in _ _ p.0
 
 -- ---- frozen texts
 
-frozen_is : (o : Options) (script : Option Script) (ss : List Source) (text : List ℕ) → (run (freezing true o) script ss).frozen ≡ Some text → is_none text ≡ false
+frozen_is : (o : Options) (script : Option Script) (ss : List Source) (text : List ℕ)
+    → (run (freezing true o) script ss).frozen ≡ Some text → is_none text ≡ false
 frozen_is o script ss text e =
     let q = after_sources (limits_of o) ss (begun (start_of o.prefix script)) in
     let p = after_wraps (limits_of o) q in
     some_text text (p.so_far).state (frozen_by p.over (saved_after ss q) p.so_far p.any_missing text e).1
 
-has_frozen : (freezes : Bool) (o : Options) (script : Option Script) (ss : List Source) → freezes ≡ true → (run (freezing freezes o) script ss).reason ≡ Ends causes.Done → is_none (unwrap_or (run (freezing freezes o) script ss).frozen []) ≡ false
+has_frozen : (freezes : Bool) (o : Options) (script : Option Script) (ss : List Source) → freezes ≡ true
+    → (run (freezing freezes o) script ss).reason ≡ Ends causes.Done
+    → is_none (unwrap_or (run (freezing freezes o) script ss).frozen []) ≡ false
 has_frozen false o script ss f e = absurd cc
 has_frozen true o script ss f e =
     let some = has_text o (start_of o.prefix script) ss e in
     ap (λ (x : Option (List ℕ)). is_none (unwrap_or x [])) some.1 ∙ frozen_is o script ss some.0 some.1
 
 -- a file that differs from s is the same in files that differ in s alone
-made_same : (name t : List ℕ) (s text other : List ℕ) (files : Files) → bytes_eq name s ≡ false → made_file t other files name ≡ made_file t other (made_file s text files) name
+made_same : (name t : List ℕ) (s text other : List ℕ) (files : Files) → bytes_eq name s ≡ false
+    → made_file t other files name ≡ made_file t other (made_file s text files) name
 made_same name t s text [] files e = sym (file_other s text files name e)
 made_same name t s text (b ∷ bs) files e =
     ap (λ (x : Option Script). if bytes_eq name t then whole_file (b ∷ bs) else x) (sym (file_other s text files name e))
@@ -243,7 +270,9 @@ three_lines o prefix reload freeze' s as' bs first second joint hf hs hj nf ns n
     ran_as second q2 left second.input hs ns qs (ws ∙ is_left) refl (Some (frozen_file text)) ys (ap (thawed_by s) there) later.1 in
     let sources : ExtendFiles w first.input (words_of (words_of as' ++ words_of bs)) (xs ++ ys) =
     subst (λ (names : List (List ℕ)). ExtendFiles w first.input names (xs ++ ys)) (sym (words_twice as' (words_of bs)))
-    (extend_append w first.input (words_of as') (words_of bs) xs ys given.1 (extend_other s text w (inputs_after first.input (words_of as')) second.input (words_of bs) ys (are_others s (words_of bs) others) later.1)) in
+    (extend_append w first.input (words_of as') (words_of bs) xs ys given.1
+    (extend_other s text w (inputs_after first.input (words_of as')) second.input (words_of bs) ys
+    (are_others s (words_of bs) others) later.1)) in
     let all : Ran joint q3 w script (xs ++ ys) = ran_as joint q3 w first.input hj nj qj wj ij script (xs ++ ys) start.1 sources in
     let r2 : RunResult = run (prefixed prefix (freezing f o)) (Some (frozen_file text)) ys in
     let r3 : RunResult = run (freezing f o) script (xs ++ ys) in
@@ -251,8 +280,10 @@ three_lines o prefix reload freeze' s as' bs first second joint hf hs hj nf ns n
     let started : is_refusal r3.reason ≡ false = unrefused (freezing true o) (freezing f o) (start_of o.prefix script) xs (xs ++ ys) is_done in
     let same_cause : (joint.ending).cause ≡ (second.ending).cause = ap cause_in (sym (all.ends).reason ∙ joins.reason ∙ (two.ends).reason) in
     record {
-      output = adds first.out_old first.out_new second.out_old second.out_new joint.out_old joint.out_new r1.output r2.output r3.output one.output two.output all.output joins.output;
-      messages = adds first.messages_old first.messages_new second.messages_old second.messages_new joint.messages_old joint.messages_new r1.messages r2.messages r3.messages
+      output = adds first.out_old first.out_new second.out_old second.out_new joint.out_old joint.out_new r1.output
+          r2.output r3.output one.output two.output all.output joins.output;
+      messages = adds first.messages_old first.messages_new second.messages_old second.messages_new joint.messages_old
+          joint.messages_new r1.messages r2.messages r3.messages
           (messages_are first q1 w script xs one (ap is_refusal is_done))
           (messages_are second q2 left (Some (frozen_file text)) ys two (ap is_refusal (sym joins.reason) ∙ started))
           (messages_are joint q3 w script (xs ++ ys) all started) joins.messages;
@@ -266,7 +297,9 @@ three_lines o prefix reload freeze' s as' bs first second joint hf hs hj nf ns n
       frozen = λ k d.
           let to : freeze' ≡ Some s = ap (λ (q : Request). q.freeze) (sym qs) ∙ k in
           let named : unwrap_or freeze' [] ≡ s = ap (λ (v : Option (List ℕ)). unwrap_or v []) to in
-          let full : is_none (unwrap_or r3.frozen []) ≡ false = has_frozen f o script (xs ++ ys) (ap (λ (v : Option (List ℕ)). is_some v) to) ((all.ends).reason ∙ ap Ends (same_cause ∙ d)) in
+          let full : is_none (unwrap_or r3.frozen []) ≡ false =
+          has_frozen f o script (xs ++ ys) (ap (λ (v : Option (List ℕ)). is_some v) to)
+          ((all.ends).reason ∙ ap Ends (same_cause ∙ d)) in
           ap (λ (v : Files). v s) all.files
           ∙ ap (λ (n : List ℕ). made_file n (unwrap_or r3.frozen []) w s) named
           ∙ made_is s (unwrap_or r3.frozen []) w full

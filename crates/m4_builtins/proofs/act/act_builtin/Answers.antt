@@ -15,7 +15,8 @@ returns-then-not-is_above-clause-leads c =
     let s = c.args.state.now in
     let enough : nat_lt (length list) (least_of b) ≡ false = search rules in
     let few : is_above (most_of b) (length list) ≡ false = search rules in
-    subst (λ (r : Acted). LeadsTo r p c.row-2.new.state c.row-2.new.effect c.in_ok-step.step) (sym (acts_plainly (goes_on list p s) b list p s enough few)) c.in_ok-step.ensures.leads
+    subst (λ (r : Acted). LeadsTo r p c.row-2.new.state c.row-2.new.effect c.in_ok-step.step)
+    (sym (acts_plainly (goes_on list p s) b list p s enough few)) c.in_ok-step.ensures.leads
 
 -- some are above the most
 pub returns-in_ok-warn_first-in-Done-clause-leads : goal.returns-in_ok-warn_first-in-Done-clause-leads
@@ -26,5 +27,8 @@ returns-in_ok-warn_first-in-Done-clause-leads c =
     let s = c.args.state.now in
     let enough : nat_lt (length list) (least_of b) ≡ false = search rules in
     let more : is_above (most_of b) (length list) ≡ true = search rules in
-    let does = subst (λ step. LeadsTo (row (goes_on list p s) b list p s) p c.row-2.new.state c.row-2.new.effect step) c.in-Done.is c.in_ok-step.ensures.leads in
-    acts_warning (goes_on list p s) b list p s c.row-2.new.state c.row-2.new.effect enough does c.in_ok-warning-in-Done.warning c.warn_first.new.self more c.in_ok-warning-in-Done.ensures c.in_ok-warn_first-in-Done.ensures
+    let does = subst (λ step. LeadsTo (row (goes_on list p s) b list p s) p c.row-2.new.state c.row-2.new.effect step)
+    c.in-Done.is c.in_ok-step.ensures.leads in
+    acts_warning (goes_on list p s) b list p s c.row-2.new.state c.row-2.new.effect enough does
+    c.in_ok-warning-in-Done.warning c.warn_first.new.self more c.in_ok-warning-in-Done.ensures
+    c.in_ok-warn_first-in-Done.ensures

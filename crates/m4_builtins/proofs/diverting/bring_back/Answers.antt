@@ -25,5 +25,6 @@ loop-number-preserved c =
     ] in
     record {
       state = state-next numbers i n s t (omega arith) refl step _ c.loop-number.invariant.state;
-      output = output-next numbers i n s t (omega arith) refl step r c.loop-number.output.items c.match-branch-2.output.items _ given written c.loop-number.invariant.output;
+      output = output-next numbers i n s t (omega arith) refl step r c.loop-number.output.items
+          c.match-branch-2.output.items _ given written c.loop-number.invariant.output;
     }

@@ -22,7 +22,8 @@ loop-arg-preserved c =
     let s = c.loop-arg.state in
     let t = c.match-branch-2.state in
     let line : drop i list ≡ arg ∷ drop (i + 1) list = drop_more list i arg (omega arith) ∙ ap (λ (a : Arg). a ∷ drop (i + 1) list) (sym c.arg-item.is) in
-    let is : o ≡ number_of_reading (reading_of (text_of_arg arg)) = c.in_ok-number.ensures.number ∙ ap (λ (x : List ℕ). number_of_reading (reading_of x)) c.text_of.ensures in
+    let is : o ≡ number_of_reading (reading_of (text_of_arg arg)) = c.in_ok-number.ensures.number
+    ∙ ap (λ (x : List ℕ). number_of_reading (reading_of x)) c.text_of.ensures in
     let left : filter_map number_of_reading (readings_of (drop i list)) ≡ cons_option o others =
     ap (λ (xs : List Arg). filter_map number_of_reading (readings_of xs)) line ∙ ap (λ (v : Option ℤ). cons_option v others) (sym is) in
     let step : t ≡ brought_back (option_to_list o) s = elim c.match-branch-2.branch [

@@ -8,7 +8,10 @@ use Rattle.m4_builtins.proofs.diverting.bring_back_each.Given as goal
 -- the arguments that are left lead to the state, the output and the warnings that all lead to
 abbrev pub invariant-loop-arg : goal.invariant-loop-arg
 invariant-loop-arg l = record {
-  state : brought_back (filter_map number_of_reading (readings_of (drop l.arg-index l.list))) l.state ≡ brought_back (filter_map number_of_reading (readings_of l.list)) l.fn.state;
-  output : l.output.items ++ issued_by (filter_map number_of_reading (readings_of (drop l.arg-index l.list))) l.state ≡ l.fn.output.items ++ issued_by (filter_map number_of_reading (readings_of l.list)) l.fn.state;
-  warned : l.messages.items ++ flat_map (reading_warning l.place Undivert) (readings_of (drop l.arg-index l.list)) ≡ l.fn.messages.items ++ flat_map (reading_warning l.place Undivert) (readings_of l.list);
+  state : brought_back (filter_map number_of_reading (readings_of (drop l.arg-index l.list))) l.state
+      ≡ brought_back (filter_map number_of_reading (readings_of l.list)) l.fn.state;
+  output : l.output.items ++ issued_by (filter_map number_of_reading (readings_of (drop l.arg-index l.list))) l.state
+      ≡ l.fn.output.items ++ issued_by (filter_map number_of_reading (readings_of l.list)) l.fn.state;
+  warned : l.messages.items ++ flat_map (reading_warning l.place Undivert) (readings_of (drop l.arg-index l.list))
+      ≡ l.fn.messages.items ++ flat_map (reading_warning l.place Undivert) (readings_of l.list);
 }

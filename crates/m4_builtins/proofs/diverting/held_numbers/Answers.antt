@@ -1,5 +1,5 @@
-use Rattle.std.proofs.Common.{◌≡◌, ◌++◌, ◌<◌, length, arith, sym, ap, ◌∙◌, ℕ, ℤ, pos, List, ◌∷◌, [], refl, subst}
-use Rattle.std.proofs.Common.{append_assoc, append-nil, rules}
+use Rattle.std.proofs.Common.{◌++◌, ◌<◌, length, arith, sym, ap, ◌∙◌, ℤ, List, ◌∷◌, [], subst}
+use Rattle.std.proofs.Common.{append_assoc, append-nil}
 use Rattle.std.specs.Int.{w32}
 use Rattle.std.proofs.lemmas.Int.{to_z-of_z}
 use mir.Val.{to_z}

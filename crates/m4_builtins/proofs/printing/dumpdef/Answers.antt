@@ -15,8 +15,10 @@ returns c =
     let p = c.args.place.now in
     let s = c.args.state.now in
     let names : List (List ℕ) = c.in_ok-names.names.items in
-    let ordered : c.sort_unstable_by.new.self.items ≡ in_byte_order names = sorted_in_byte_order names c.sort_unstable_by.new.self.items c.sort_unstable_by.ensures.permutation
-    (c.sort_unstable_by.ensures.sorted (λ x y. is_lt (byte_order x y)) (ranks_by nat_list_cmp_total (λ x. x)) (answers_always _ _ _ (λ f a r g h. search rules))) in
+    let ordered : c.sort_unstable_by.new.self.items ≡ in_byte_order names =
+    sorted_in_byte_order names c.sort_unstable_by.new.self.items c.sort_unstable_by.ensures.permutation
+    (c.sort_unstable_by.ensures.sorted (λ x y. is_lt (byte_order x y)) (ranks_by nat_list_cmp_total (λ x. x))
+    (answers_always _ _ _ (λ f a r g h. search rules))) in
     let first : c.push_warnings.new.messages.items ≡ warnings_on names p s = search rules in
     let second : c.push_lines.new.messages.items ≡ c.push_warnings.new.messages.items ++ lines_of c.sort_unstable_by.new.self.items s = search rules in
     let messages : c.from.result ≡ dumped (names_shown c.args.list.now s) p s =

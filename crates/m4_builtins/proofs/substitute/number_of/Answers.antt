@@ -14,4 +14,5 @@ pub returns-in_err-value : goal.returns-in_err-value
 returns-in_err-value c =
     let i = c.loop-digit.digit-index in
     let next = sym (number_next c.loop-digit.value i c.args.digits.now (omega arith)) ∙ c.loop-digit.invariant in
-    too_great c.from_residual-in_err-value.result _ (drop (i + 1) c.args.digits.now) _ c.from_residual-in_err-value.ensures next (omega (arith, c.in_err-value.ensures))
+    too_great c.from_residual-in_err-value.result _ (drop (i + 1) c.args.digits.now) _
+    c.from_residual-in_err-value.ensures next (omega (arith, c.in_err-value.ensures))

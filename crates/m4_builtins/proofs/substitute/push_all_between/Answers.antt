@@ -23,11 +23,13 @@ loop-arg-preserved c =
     let line : drop i args ≡ arg ∷ drop (i + 1) args = drop_more args i arg (omega arith) ∙ ap (λ (a : Arg). a ∷ drop (i + 1) args) (sym c.arg-item.is) in
     let before : out ++ joined_rest c.loop-arg.first (comma ∷ []) (quoted q (text_of_arg arg) ∷ map (quoted q) rest) ≡ all =
     subst (λ (z : List Arg). out ++ joined_rest c.loop-arg.first (comma ∷ []) (map (quoted q) (map text_of_arg z)) ≡ all) line c.loop-arg.invariant in
-    let written : c.push_between.new.out.items ≡ mid ++ quoted q (text_of_arg arg) = c.in_ok-push_between.ensures ∙ ap (λ (t : List ℕ). mid ++ quoted q t) c.text_of.ensures in
+    let written : c.push_between.new.out.items ≡ mid ++ quoted q (text_of_arg arg) = c.in_ok-push_between.ensures
+    ∙ ap (λ (t : List ℕ). mid ++ quoted q t) c.text_of.ensures in
     elim c.if-not-first.branch [
       | then-not-first+in_ok-push w ↦
           let comma_after : mid ≡ out ++ (comma ∷ []) = cc (w.out-is, w.in_ok-push.ensures.items) in
-          quoted_later q (comma ∷ []) out mid c.push_between.new.out.items (text_of_arg arg) all rest c.loop-arg.first w.if-not-first.true comma_after written before
+          quoted_later q (comma ∷ []) out mid c.push_between.new.out.items (text_of_arg arg) all rest c.loop-arg.first
+          w.if-not-first.true comma_after written before
       | else-not-first w ↦
           let same : mid ≡ out = cc (w.out-is) in
           quoted_first q (comma ∷ []) out mid c.push_between.new.out.items (text_of_arg arg) all rest c.loop-arg.first w.if-not-first.false same written before

@@ -6,7 +6,8 @@ use Rattle.m4_builtins.proofs.substitute.push_front.Goals as goal
 
 pub returns-in-None-clause-pushed : goal.returns-in-None-clause-pushed
 returns-in-None-clause-pushed c =
-    front_plain c.args.name.now (map text_of_arg c.args.list.now) (pair_of c.args.quotes) c.args.out.now.items c.append_front.new.out.items c.args.text.now c.split_at.result.1.now c.args.plain
+    front_plain c.args.name.now (map text_of_arg c.args.list.now) (pair_of c.args.quotes) c.args.out.now.items
+    c.append_front.new.out.items c.args.text.now c.split_at.result.1.now c.args.plain
     c.requires.count c.split_at.ensures.back c.in_ok-append_front.ensures.ok
 
 pub returns-in_ok-used-in-Some-clause-pushed : goal.returns-in_ok-used-in-Some-clause-pushed

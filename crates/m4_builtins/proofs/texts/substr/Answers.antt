@@ -20,7 +20,8 @@ returns-in_default-number c =
     let a = c.text-item.result in
     let b = c.from-item.result in
     let number : None ≡ number_of b = read_of _ _ _ b c.in_default-number.is c.in_ok-number.ensures.number c.text_of.ensures in
-    let warned : c.number_in.new.messages.items ≡ warning_on p b = warned_of p _ _ [] _ b c.new-messages.ensures.items c.in_ok-number.ensures.warns c.text_of.ensures in
+    let warned : c.number_in.new.messages.items ≡ warning_on p b =
+    warned_of p _ _ [] _ b c.new-messages.ensures.items c.in_ok-number.ensures.warns c.text_of.ensures in
     sym (substr-no_place p list (take (length list - 2) (drop 2 list)) a b c.in-len2-up.len_at_least c.text-item.is c.from-item.is refl number
     ∙ ap only_warning (sym (c.from.ensures ∙ warned))
     ∙ ap (λ (e : Effect). record e { messages = c.from.result }) (sym c.requires)
@@ -35,10 +36,13 @@ returns-in_default-number-2 c =
     let b = c.from-item.result in
     let d = c.count-item.result in
     let number : Some c.in-Some.from ≡ number_of b = read_of _ _ _ b c.in-Some.is c.in_ok-number.ensures.number c.text_of.ensures in
-    let warned : c.number_in.new.messages.items ≡ warning_on p b = warned_of p _ _ [] _ b c.new-messages.ensures.items c.in_ok-number.ensures.warns c.text_of.ensures in
+    let warned : c.number_in.new.messages.items ≡ warning_on p b =
+    warned_of p _ _ [] _ b c.new-messages.ensures.items c.in_ok-number.ensures.warns c.text_of.ensures in
     let number_2 : None ≡ number_of d = read_of _ _ _ d c.in_default-number-2.is c.in_ok-number-2.ensures.number c.text_of-in-len1-up.ensures in
-    let warned_2 : c.number_in-in-len1-up.new.messages.items ≡ warning_on p b ++ warning_on p d = warned_of p _ _ (warning_on p b) _ d warned c.in_ok-number-2.ensures.warns c.text_of-in-len1-up.ensures in
-    sym (substr-no_count p list (take (length list - 2) (drop 2 list)) a b c.in-len2-up.len_at_least c.text-item.is c.from-item.is refl c.in-Some.from number d c.in-len1-up.len_at_least c.count-item.is number_2
+    let warned_2 : c.number_in-in-len1-up.new.messages.items ≡ warning_on p b ++ warning_on p d =
+    warned_of p _ _ (warning_on p b) _ d warned c.in_ok-number-2.ensures.warns c.text_of-in-len1-up.ensures in
+    sym (substr-no_count p list (take (length list - 2) (drop 2 list)) a b c.in-len2-up.len_at_least c.text-item.is
+    c.from-item.is refl c.in-Some.from number d c.in-len1-up.len_at_least c.count-item.is number_2
     ∙ ap only_warning (sym (c.from-in_default-number-2.ensures ∙ warned_2))
     ∙ ap (λ (e : Effect). record e { messages = c.from-in_default-number-2.result }) (sym c.requires)
     ∙ sym c.warn-in_default-number-2.ensures)
@@ -54,7 +58,8 @@ returns c =
     let fits : FitsSigned w32 from = search rules in
     let cut : c.from_place-part.result.now ≡ from_place from c.text_of-2.result.now = rw (to_z-of_z w32 from fits) at c.from_place-part.ensures in
     let number : Some from ≡ number_of b = read_of _ _ _ b c.in-Some.is c.in_ok-number.ensures.number c.text_of.ensures in
-    let warned : c.number_in.new.messages.items ≡ warning_on p b = warned_of p _ _ [] _ b c.new-messages.ensures.items c.in_ok-number.ensures.warns c.text_of.ensures in
+    let warned : c.number_in.new.messages.items ≡ warning_on p b =
+    warned_of p _ _ [] _ b c.new-messages.ensures.items c.in_ok-number.ensures.warns c.text_of.ensures in
     let counts = take (length list - 2) (drop 2 list) in
     elim c.if-counts-lt1.branch [
       | in_default-counts w ↦
@@ -70,9 +75,11 @@ returns c =
           let fits_2 : FitsSigned w32 count = search rules in
           let cut_2 : w.at_most-part.result.now ≡ at_most count c.from_place-part.result.now = rw (to_z-of_z w32 count fits_2) at w.at_most-part.ensures in
           let number_2 : Some count ≡ number_of d = read_of _ _ _ d w.in-Some-number.is w.in_ok-number-2.ensures.number w.text_of-in-len1-up.ensures in
-          let warned_2 : w.number_in-in-len1-up.new.messages.items ≡ warning_on p b ++ warning_on p d = warned_of p _ _ (warning_on p b) _ d warned w.in_ok-number-2.ensures.warns w.text_of-in-len1-up.ensures in
+          let warned_2 : w.number_in-in-len1-up.new.messages.items ≡ warning_on p b ++ warning_on p d =
+          warned_of p _ _ (warning_on p b) _ d warned w.in_ok-number-2.ensures.warns w.text_of-in-len1-up.ensures in
           sym (pushed_with _ c.give_copy.new.self c.from-2.result (warning_on p b ++ warning_on p d) _ (at_most count (from_place from (text_of_arg a)))
-          (substr-counted p list counts a b c.in-len2-up.len_at_least c.text-item.is c.from-item.is refl from number d count w.in-len1-up.len_at_least w.count-item.is number_2)
+          (substr-counted p list counts a b c.in-len2-up.len_at_least c.text-item.is c.from-item.is refl from number d
+          count w.in-len1-up.len_at_least w.count-item.is number_2)
           (c.in_ok-give_copy.ensures ∙ ap (λ (f : Effect). record f { push = Some (pushes.Text c.if-counts-lt1.part.now) }) c.requires)
           (ap (λ v. v.now) w.part-is ∙ cut_2 ∙ ap (at_most count) (cut ∙ ap (from_place from) c.text_of-2.ensures))
           (c.from-2.ensures ∙ ap (λ v. v.items) w.messages-is ∙ warned_2)

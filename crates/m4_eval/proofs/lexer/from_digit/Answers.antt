@@ -16,7 +16,8 @@ returns-in_err-go_on-clause-value c =
     (lt-ltb (digit_value c.args.first) c.args.radix l) (omega (arith, v, n))
     (run_is c.args.after.now c.split_at.result.0.now c.run_len.result c.run_len.ensures.len c.split_at.ensures.front)
     (sym c.in_err-go_on.was ∙ c.go_on.ensures
-    ∙ ap (λ z. bits_after c.args.radix z c.split_at.result.0.now) (digit_passed c.from.result c.digit_of-value.result (digit_value c.args.first) c.from.ensures v n))
+    ∙ ap (λ z. bits_after c.args.radix z c.split_at.result.0.now)
+    (digit_passed c.from.result c.digit_of-value.result (digit_value c.args.first) c.from.ensures v n))
 
 pub returns-clause-value : goal.returns-clause-value
 returns-clause-value c =
@@ -29,4 +30,5 @@ returns-clause-value c =
     (lt-ltb (digit_value c.args.first) c.args.radix l) (omega (arith, v, n))
     (run_is c.args.after.now c.split_at.result.0.now c.run_len.result c.run_len.ensures.len c.split_at.ensures.front)
     (sym c.in_ok-go_on.was ∙ c.go_on.ensures
-    ∙ ap (λ z. bits_after c.args.radix z c.split_at.result.0.now) (digit_passed c.from.result c.digit_of-value.result (digit_value c.args.first) c.from.ensures v n))
+    ∙ ap (λ z. bits_after c.args.radix z c.split_at.result.0.now)
+    (digit_passed c.from.result c.digit_of-value.result (digit_value c.args.first) c.from.ensures v n))

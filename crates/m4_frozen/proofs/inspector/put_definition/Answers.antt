@@ -9,7 +9,8 @@ pub returns-in-Placeholder-clause-puts : goal.returns-in-Placeholder-clause-puts
 returns-in-Placeholder-clause-puts g c =
     let put = rw c.as_slice-in-Placeholder.ensures.value at c.put_two_words-in-Placeholder.ensures.puts in
     rw c.in-Placeholder.is
-    (subst (λ (t : List ℕ). Puts c.put_two_words-in-Placeholder.result (g.W.ByteSink.contents c.args.writer.now) (g.W.ByteSink.contents c.put_two_words-in-Placeholder.new.writer) t)
+    (subst (λ (t : List ℕ). Puts c.put_two_words-in-Placeholder.result (g.W.ByteSink.contents c.args.writer.now)
+    (g.W.ByteSink.contents c.put_two_words-in-Placeholder.new.writer) t)
     (two_words_line-flat (codes "placeholder ") c.args.name.now c.in-Placeholder.builtin) put)
 
 -- a text's length

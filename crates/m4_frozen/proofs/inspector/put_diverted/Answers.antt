@@ -11,7 +11,8 @@ returns-in_err-put_texts-clause-puts g c =
 pub returns-in_err-put_current-clause-puts : goal.returns-in_err-put_current-clause-puts
 returns-in_err-put_current-clause-puts g c =
     Puts-refused c.from_residual-in_err-put_current.result _ _ _ c.from_residual-in_err-put_current.ensures.0
-    (HasPut-cut _ _ _ (HasPut-put _ _ _ (HasPut-start _ _) c.in_ok-put_texts.ensures.puts) c.in_err-put_current.ensures.puts.0 c.in_err-put_current.ensures.puts.1)
+    (HasPut-cut _ _ _ (HasPut-put _ _ _ (HasPut-start _ _) c.in_ok-put_texts.ensures.puts)
+    c.in_err-put_current.ensures.puts.0 c.in_err-put_current.ensures.puts.1)
 
 -- the last part decides
 pub returns-clause-puts : goal.returns-clause-puts

@@ -7,7 +7,8 @@ use Rattle.m4_frozen.proofs.inspector.put_each.Goals as goal
 pub returns-in_err-put_byte-clause-puts : goal.returns-in_err-put_byte-clause-puts
 returns-in_err-put_byte-clause-puts g c =
     let left = rw (flat_map-drop show_byte c.args.bytes.now c.loop-byte.byte-index 0 c.loop-byte-test.true) at c.loop-byte.invariant.0 in
-    Puts-refused c.from_residual.result _ _ _ c.from_residual.ensures.0 (HasPut-cut _ _ _ left c.in_err-put_byte.ensures.puts.0 c.in_err-put_byte.ensures.puts.1)
+    Puts-refused c.from_residual.result _ _ _ c.from_residual.ensures.0
+    (HasPut-cut _ _ _ left c.in_err-put_byte.ensures.puts.0 c.in_err-put_byte.ensures.puts.1)
 
 -- a byte was put
 pub loop-byte-preserved : goal.loop-byte-preserved

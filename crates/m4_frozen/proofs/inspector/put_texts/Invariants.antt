@@ -9,7 +9,8 @@ use Rattle.m4_frozen.proofs.inspector.put_texts.Given as goal
 abbrev pub invariant-loop-number : goal.invariant-loop-number
 invariant-loop-number g l =
     (AreDiversions l.state.diversions
-    → HasPut (g.W.ByteSink.contents l.initial.writer) (g.W.ByteSink.contents l.writer) (texts_lines l.state.diversions) (texts_lines (above l.last l.state.diversions)))
+    → HasPut (g.W.ByteSink.contents l.initial.writer) (g.W.ByteSink.contents l.writer) (texts_lines l.state.diversions)
+    (texts_lines (above l.last l.state.diversions)))
     × (g.W.ByteSink.failures l.writer ≡ g.W.ByteSink.failures l.initial.writer)
 
 abbrev pub decreases-loop-number : goal.decreases-loop-number

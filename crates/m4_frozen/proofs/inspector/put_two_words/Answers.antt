@@ -16,4 +16,5 @@ returns-in_err-put_word-2-clause-puts g c =
 -- the last part decides
 pub returns-clause-puts : goal.returns-clause-puts
 returns-clause-puts g c =
-    HasPut-last _ _ _ _ (HasPut-put _ _ _ (HasPut-put _ _ _ (HasPut-start _ _) c.in_ok-put_word.ensures.puts) c.in_ok-put_word-2.ensures.puts) c.write_all.ensures.puts
+    HasPut-last _ _ _ _ (HasPut-put _ _ _ (HasPut-put _ _ _ (HasPut-start _ _) c.in_ok-put_word.ensures.puts)
+    c.in_ok-put_word-2.ensures.puts) c.write_all.ensures.puts

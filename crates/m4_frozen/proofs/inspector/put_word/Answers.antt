@@ -14,12 +14,14 @@ returns-in_err-write_all-clause-puts g c =
 pub returns-then-is_empty-clause-puts : goal.returns-then-is_empty-clause-puts
 returns-then-is_empty-clause-puts g c =
     let shown = show-none c.args.bytes.now c.is_empty.result c.is_empty.ensures c.if-is_empty.true in
-    subst (λ (t : List ℕ). Puts c.write_all-then-is_empty.result (g.W.ByteSink.contents c.args.writer.now) (g.W.ByteSink.contents c.write_all-then-is_empty.new.writer) (c.args.word.now ++ t)) (sym shown)
+    subst (λ (t : List ℕ). Puts c.write_all-then-is_empty.result (g.W.ByteSink.contents c.args.writer.now)
+    (g.W.ByteSink.contents c.write_all-then-is_empty.new.writer) (c.args.word.now ++ t)) (sym shown)
     (HasPut-last _ _ _ _ (HasPut-put _ _ _ (HasPut-start _ _) c.in_ok-write_all.ensures.puts) c.write_all-then-is_empty.ensures.puts)
 
 -- the bytes decide
 pub returns-clause-puts : goal.returns-clause-puts
 returns-clause-puts g c =
     let shown = show-some c.args.bytes.now c.is_empty.result c.is_empty.ensures c.if-is_empty.false in
-    subst (λ (t : List ℕ). Puts c.put_shown.result (g.W.ByteSink.contents c.args.writer.now) (g.W.ByteSink.contents c.put_shown.new.writer) (c.args.word.now ++ t)) (sym shown)
+    subst (λ (t : List ℕ). Puts c.put_shown.result (g.W.ByteSink.contents c.args.writer.now)
+    (g.W.ByteSink.contents c.put_shown.new.writer) (c.args.word.now ++ t)) (sym shown)
     (HasPut-last _ _ _ _ (HasPut-put _ _ _ (HasPut-start _ _) c.in_ok-write_all.ensures.puts) c.put_shown.ensures.puts)

@@ -124,7 +124,8 @@ returns-in-End-clause-read_fault g c =
     c.in_ok-pause.ensures (rw c.in-End.is at c.in_ok-after.ensures.takes.1) c.end.ensures).not_read
 
 pub returns-in-Failure-clause-fault : goal.returns-in-Failure-clause-fault
-returns-in-Failure-clause-fault g c = rw c.failed.ensures (λ room. window_failed (g.R.ByteSource.script c.args.reader.now) (g.R.ByteSource.script c.fill.new.reader)
+returns-in-Failure-clause-fault g c = rw c.failed.ensures
+    (λ room. window_failed (g.R.ByteSource.script c.args.reader.now) (g.R.ByteSource.script c.fill.new.reader)
     c.fill.new.self
     c.loop-loading.loading c.read_window.new.loading c.in_ok-pause.pause _
     (filled (g.R.ByteSource.script c.args.reader.now) (g.R.ByteSource.script c.loop-loading.reader)

@@ -6,7 +6,8 @@ use Rattle.m4_frozen.specs.Blocks.{HasTaken}
 use Rattle.m4_frozen.proofs.room.fill_room.Goals as goal
 
 -- more bytes came
-taken_more : (start before room : List ℕ) (end n : ℕ) (first old new : Option Script) → HasTaken start (take end before) first old → take end room ≡ take end before
+taken_more : (start before room : List ℕ) (end n : ℕ) (first old new : Option Script)
+    → HasTaken start (take end before) first old → take end room ≡ take end before
     → old ≡ after_bytes (take n (drop end room)) new → HasTaken start (take (end + n) room) first new
 taken_more start before room end n first old new h same gives =
     let more : List ℕ = take n (drop end room) in

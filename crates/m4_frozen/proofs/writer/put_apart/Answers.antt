@@ -11,9 +11,11 @@ returns-in_err-write_all-clause-puts g c =
 pub returns-in_err-write_all-2-clause-puts : goal.returns-in_err-write_all-2-clause-puts
 returns-in_err-write_all-2-clause-puts g c =
     Puts-refused c.from_residual-in_err-write_all-2.result _ _ _ c.from_residual-in_err-write_all-2.ensures.0
-    (HasPut-cut _ _ _ (HasPut-put _ _ _ (HasPut-start _ _) c.in_ok-write_all.ensures.puts) c.in_err-write_all-2.ensures.puts.0 c.in_err-write_all-2.ensures.puts.1)
+    (HasPut-cut _ _ _ (HasPut-put _ _ _ (HasPut-start _ _) c.in_ok-write_all.ensures.puts)
+    c.in_err-write_all-2.ensures.puts.0 c.in_err-write_all-2.ensures.puts.1)
 
 -- the newline decides
 pub returns-clause-puts : goal.returns-clause-puts
 returns-clause-puts g c =
-    HasPut-last _ _ _ _ (HasPut-put _ _ _ (HasPut-put _ _ _ (HasPut-start _ _) c.in_ok-write_all.ensures.puts) c.in_ok-write_all-2.ensures.puts) c.write_all-3.ensures.puts
+    HasPut-last _ _ _ _ (HasPut-put _ _ _ (HasPut-put _ _ _ (HasPut-start _ _) c.in_ok-write_all.ensures.puts)
+    c.in_ok-write_all-2.ensures.puts) c.write_all-3.ensures.puts

@@ -17,6 +17,13 @@ returns-in_err-last-clause-puts g c =
 pub returns-clause-puts : goal.returns-clause-puts
 returns-clause-puts g c =
     let current_fits : FitsSigned w32 c.current.result = rw c.current.ensures.current c.current.ensures.valid.current in
-    let last_is_fit : FitsSigned w32 c.in_ok-last.last = rw c.in_ok-last.ensures.last (last_fits (pos 0) c.args.state.now.diversions (sfits_lit tt) c.current.ensures.valid.diversions.each) in
-    let current = rw (to_z-of_z w32 c.current.result current_fits, to_z-of_z w32 c.in_ok-last.last last_is_fit, c.current.ensures.current, c.in_ok-last.ensures.last) at c.put_current.ensures.puts in
+    let last_is_fit : FitsSigned w32 c.in_ok-last.last =
+    rw c.in_ok-last.ensures.last (last_fits (pos 0) c.args.state.now.diversions (sfits_lit tt)
+    c.current.ensures.valid.diversions.each) in
+    let current = rw (
+      to_z-of_z w32 c.current.result current_fits,
+      to_z-of_z w32 c.in_ok-last.last last_is_fit,
+      c.current.ensures.current,
+      c.in_ok-last.ensures.last,
+    ) at c.put_current.ensures.puts in
     HasPut-last _ _ _ _ (HasPut-put _ _ _ (HasPut-start _ _) c.in_ok-last.ensures.puts) current

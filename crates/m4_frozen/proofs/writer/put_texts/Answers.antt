@@ -14,8 +14,10 @@ loop-number-init g c = (λ valid. rw (above-all c.args.state.now.diversions vali
 -- a diversion failed
 pub returns-in_err-put_diversion-clause-puts : goal.returns-in_err-put_diversion-clause-puts
 returns-in_err-put_diversion-clause-puts g c =
-    let next = above-next (to_z w32 c.loop-number.last-bits) c.in-Some.number c.args.state.now.diversions c.in-Some.ensures.valid.sorted (sym c.in-Some.ensures.next) in
-    let fits = next_fits (to_z w32 c.loop-number.last-bits) c.in-Some.number c.args.state.now.diversions c.in-Some.ensures.valid.each (sym c.in-Some.ensures.next) in
+    let next = above-next (to_z w32 c.loop-number.last-bits) c.in-Some.number c.args.state.now.diversions
+    c.in-Some.ensures.valid.sorted (sym c.in-Some.ensures.next) in
+    let fits = next_fits (to_z w32 c.loop-number.last-bits) c.in-Some.number c.args.state.now.diversions
+    c.in-Some.ensures.valid.each (sym c.in-Some.ensures.next) in
     let left = rw next.above_is at (c.loop-number.invariant.0 c.in-Some.ensures.valid).0 in
     let put = rw (c.diversion.ensures, to_z-of_z w32 c.in-Some.number fits) at c.in_err-put_diversion.ensures.puts in
     Puts-refused c.from_residual.result _ _ _ c.from_residual.ensures.0 (HasPut-cut _ _ _ left put.0 put.1)
@@ -44,8 +46,10 @@ loop-number-preserved g c =
 -- none is left
 pub returns-clause-puts : goal.returns-clause-puts
 returns-clause-puts g c =
-    HasPut-all _ (rw (above-last (to_z w32 c.loop-number.last-bits) c.args.state.now.diversions (sym c.in_default.ensures.next)) at (c.loop-number.invariant.0 c.in_default.ensures.valid).0)
+    HasPut-all _ (rw (above-last (to_z w32 c.loop-number.last-bits) c.args.state.now.diversions
+    (sym c.in_default.ensures.next)) at (c.loop-number.invariant.0 c.in_default.ensures.valid).0)
 
 pub returns-clause-last : goal.returns-clause-last
 returns-clause-last g c =
-    rw (above-last (to_z w32 c.loop-number.last-bits) c.args.state.now.diversions (sym c.in_default.ensures.next)) at (c.loop-number.invariant.0 c.in_default.ensures.valid).1
+    rw (above-last (to_z w32 c.loop-number.last-bits) c.args.state.now.diversions (sym c.in_default.ensures.next)) at
+    (c.loop-number.invariant.0 c.in_default.ensures.valid).1

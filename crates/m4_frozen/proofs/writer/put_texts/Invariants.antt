@@ -10,7 +10,8 @@ use Rattle.m4_frozen.proofs.writer.put_texts.Given as goal
 abbrev pub invariant-loop-number : goal.invariant-loop-number
 invariant-loop-number g l =
     (AreDiversions l.state.diversions
-    → HasPut (g.W.ByteSink.contents l.initial.writer) (g.W.ByteSink.contents l.writer) (texts_text l.state.diversions) (texts_text (above l.last l.state.diversions))
+    → HasPut (g.W.ByteSink.contents l.initial.writer) (g.W.ByteSink.contents l.writer) (texts_text l.state.diversions)
+    (texts_text (above l.last l.state.diversions))
     × (last_number l.last (above l.last l.state.diversions) ≡ last_number (pos 0) l.state.diversions))
     × (g.W.ByteSink.failures l.writer ≡ g.W.ByteSink.failures l.initial.writer)
 

@@ -29,4 +29,5 @@ returns-clause-within c =
     let x = c.args.text.now in
     let p = is_byte2 c.args.one c.args.other in
     let long = length-chunk c.args.at 16 x c.requires.room in
-    run_in_chunk_le p x c.args.at 16 _ 0 c.requires.room (c.first_lane.ensures p _ long (either_marks c.args.one c.args.other (take 16 (drop c.args.at x)) long))
+    run_in_chunk_le p x c.args.at 16 _ 0 c.requires.room
+    (c.first_lane.ensures p _ long (either_marks c.args.one c.args.other (take 16 (drop c.args.at x)) long))

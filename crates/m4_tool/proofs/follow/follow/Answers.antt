@@ -20,7 +20,8 @@ returns-in-None-clause-followed g c = λ files files_new input o o' m m' n k w a
   failures_new = g.M.ByteSink.failures c.follow_run.new.messages;
   extends = λ r e.
       follows_by (request_of c.args.line.now) r c.follow_run.result.status c.follow_run.result.failure
-      (g.O.ByteSink.contents c.args.out.now) (g.O.ByteSink.contents c.follow_run.new.out) (g.M.ByteSink.contents c.args.messages.now) (g.M.ByteSink.contents c.follow_run.new.messages)
+      (g.O.ByteSink.contents c.args.out.now) (g.O.ByteSink.contents c.follow_run.new.out)
+      (g.M.ByteSink.contents c.args.messages.now) (g.M.ByteSink.contents c.follow_run.new.messages)
       (g.M.ByteSink.failures c.args.messages.now) (g.M.ByteSink.failures c.follow_run.new.messages)
       (g.W.World.files c.args.world) (g.W.World.files c.follow_run.result.world) o o' m m' files files_new
       a a' b b' k.0.1 w (c.follow_run.ensures.follows files input r k e);

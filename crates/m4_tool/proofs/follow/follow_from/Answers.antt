@@ -12,7 +12,8 @@ use Rattle.m4_tool.proofs.follow.follow_from.Goals as goal
 
 pub returns-clause-ends : goal.returns-clause-ends
 returns-clause-ends g c = λ files input script ss k t e.
-    ended c.close.result.failure (unwrap_or (option_map string_bytes c.args.line.now.freeze) []) c.args.file.now (defined c.args.line.now.options script ss) c.run_line-ran.result.ending
+    ended c.close.result.failure (unwrap_or (option_map string_bytes c.args.line.now.freeze) []) c.args.file.now
+    (defined c.args.line.now.options script ss) c.run_line-ran.result.ending
     (g.O.ByteSink.contents c.args.out.now) (g.O.ByteSink.contents c.run_line-ran.new.out) (g.O.ByteSink.contents c.close.new.out)
     (g.M.ByteSink.contents c.args.messages.now) (g.M.ByteSink.contents c.run_line-ran.new.messages) (g.M.ByteSink.contents c.close.new.messages)
     (g.M.ByteSink.failures c.args.messages.now) (g.M.ByteSink.failures c.run_line-ran.new.messages) (g.M.ByteSink.failures c.close.new.messages)
@@ -21,7 +22,9 @@ returns-clause-ends g c = λ files input script ss k t e.
 
 pub returns-clause-read : goal.returns-clause-read
 returns-clause-read g c = λ files input k e.
-    c.run_line-ran.ensures.read files input k (closes_read c.args.file.now c.run_line-ran.result.ending c.close.result.status c.close.result.failure _ c.close.ensures.closes e)
+    c.run_line-ran.ensures.read files input k
+    (closes_read c.args.file.now c.run_line-ran.result.ending c.close.result.status c.close.result.failure _
+    c.close.ensures.closes e)
 
 pub returns-clause-unfinished : goal.returns-clause-unfinished
 returns-clause-unfinished g c =
@@ -32,7 +35,8 @@ returns-clause-unfinished g c =
 pub returns-clause-ended : goal.returns-clause-ended
 returns-clause-ended g c = λ files input script ss k t e n.
     ends_as c.args.line.now.options script ss c.run_line-ran.result.ending c.close.result.ending c.close.ensures.ending
-    (ends_run c.args.line.now.options script ss (unwrap_or (option_map string_bytes c.args.line.now.freeze) []) c.args.file.now c.run_line-ran.result.ending c.close.result.status c.close.result.failure _ _
+    (ends_run c.args.line.now.options script ss (unwrap_or (option_map string_bytes c.args.line.now.freeze) [])
+    c.args.file.now c.run_line-ran.result.ending c.close.result.status c.close.result.failure _ _
     (c.run_line-ran.ensures.ran files input script ss k t e) c.close.ensures.closes n (c.run_line-ran.ensures.sized files input script ss k t e))
 
 pub returns-clause-shown_output : goal.returns-clause-shown_output

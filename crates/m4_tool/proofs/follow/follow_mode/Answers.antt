@@ -21,10 +21,13 @@ pub returns-in-None-clause-follows : goal.returns-in-None-clause-follows
 returns-in-None-clause-follows g c = λ files k.
     mode_missed c.args.mode c.args.file.now (files c.args.file.now) c.put_unopened-put.result
     (g.O.ByteSink.contents c.args.out.now) (g.O.ByteSink.contents c.close_mode-in-None.new.out)
-    (g.M.ByteSink.contents c.args.messages.now) (g.M.ByteSink.contents c.put_unopened-put.new.messages) (g.M.ByteSink.contents c.close_mode-in-None.new.messages)
-    (g.M.ByteSink.failures c.args.messages.now) (g.M.ByteSink.failures c.put_unopened-put.new.messages) (g.M.ByteSink.failures c.close_mode-in-None.new.messages)
+    (g.M.ByteSink.contents c.args.messages.now) (g.M.ByteSink.contents c.put_unopened-put.new.messages)
+    (g.M.ByteSink.contents c.close_mode-in-None.new.messages)
+    (g.M.ByteSink.failures c.args.messages.now) (g.M.ByteSink.failures c.put_unopened-put.new.messages)
+    (g.M.ByteSink.failures c.close_mode-in-None.new.messages)
     c.close_mode-in-None.result.status (g.W.World.files c.args.world) (g.W.World.files c.close_mode-in-None.result.world) _ _
-    (rw k.1 at (c.in-None.ensures k.0)) c.put_unopened-put.ensures.puts c.put_unopened-put.ensures.counted c.close_mode-in-None.ensures.closes c.close_mode-in-None.ensures.files
+    (rw k.1 at (c.in-None.ensures k.0)) c.put_unopened-put.ensures.puts c.put_unopened-put.ensures.counted
+    c.close_mode-in-None.ensures.closes c.close_mode-in-None.ensures.files
 
 pub returns-in-Some-clause-shown_output : goal.returns-in-Some-clause-shown_output
 returns-in-Some-clause-shown_output g c = c.close_mode.ensures.shown_output _

@@ -15,7 +15,8 @@ returns-in-None-clause-follows g c = λ files input r known l.
     let file = unwrap_or (option_map string_bytes line.reload) [] in
     let k = fresh_result files (option_map string_bytes line.reload) line.options file l.0 r (ap (option_map string_bytes) c.in-None.is) l.2 in
     let e = sym (ap (λ o. unwrap_or (option_map string_bytes o) []) c.in-None.is) in
-    ends_as c.follow_from.result.failure (unwrap_or (option_map string_bytes line.freeze) []) [] file (result_of_run [] (run line.options None l.0)) r c.follow_from.result.status _ e
+    ends_as c.follow_from.result.failure (unwrap_or (option_map string_bytes line.freeze) []) [] file
+    (result_of_run [] (run line.options None l.0)) r c.follow_from.result.status _ e
     (ap (λ (x : List ℕ). result_of_run x (run line.options None l.0)) e ∙ k) (c.follow_from.ensures.ends files input None l.0 known refl l.1)
 
 pub returns-in-Some-open-clause-follows : goal.returns-in-Some-open-clause-follows
@@ -25,10 +26,14 @@ returns-in-Some-open-clause-follows g c = λ files input r known l.
     let file = unwrap_or (option_map string_bytes line.reload) [] in
     let is = c.as_bytes-file.ensures.value ∙ c.as_str.ensures.value in
     let e = is ∙ sym (ap (λ o. unwrap_or (option_map string_bytes o) []) c.in-Some.is) in
-    let t = thawed_at files (option_map string_bytes line.reload) given line.options file (Some l.0) r (ap (option_map string_bytes) c.in-Some.is ∙ ap (λ (n : List ℕ). Some n) (sym is)) l.2 in
-    let k = reloads_so g.W.Reader.ByteSource.script c.in-Some-open.reader given (files given) line.options file l.0 r (rw known.0.1 at (c.in-Some-open.ensures known.0.0)) t in
-    ends_as c.follow_from-in-Some-open.result.failure (unwrap_or (option_map string_bytes line.freeze) []) given file (result_of_run given (run line.options k.frozen l.0)) r c.follow_from-in-Some-open.result.status _ e
-    (ap (λ (x : List ℕ). result_of_run x (run line.options k.frozen l.0)) e ∙ k.result) (c.follow_from-in-Some-open.ensures.ends files input k.frozen l.0 known k.describes l.1)
+    let t = thawed_at files (option_map string_bytes line.reload) given line.options file (Some l.0) r
+    (ap (option_map string_bytes) c.in-Some.is ∙ ap (λ (n : List ℕ). Some n) (sym is)) l.2 in
+    let k = reloads_so g.W.Reader.ByteSource.script c.in-Some-open.reader given (files given) line.options file l.0 r
+    (rw known.0.1 at (c.in-Some-open.ensures known.0.0)) t in
+    ends_as c.follow_from-in-Some-open.result.failure (unwrap_or (option_map string_bytes line.freeze) []) given file
+    (result_of_run given (run line.options k.frozen l.0)) r c.follow_from-in-Some-open.result.status _ e
+    (ap (λ (x : List ℕ). result_of_run x (run line.options k.frozen l.0)) e ∙ k.result)
+    (c.follow_from-in-Some-open.ensures.ends files input k.frozen l.0 known k.describes l.1)
 
 pub returns-in-None-open-clause-follows : goal.returns-in-None-open-clause-follows
 returns-in-None-open-clause-follows g c = λ files input r known l.
@@ -37,7 +42,8 @@ returns-in-None-open-clause-follows g c = λ files input r known l.
     let file = unwrap_or (option_map string_bytes line.reload) [] in
     let is = c.as_bytes-file.ensures.value ∙ c.as_str.ensures.value in
     let e = is ∙ sym (ap (λ o. unwrap_or (option_map string_bytes o) []) c.in-Some.is) in
-    let t = thawed_at files (option_map string_bytes line.reload) given line.options file (Some l.0) r (ap (option_map string_bytes) c.in-Some.is ∙ ap (λ (n : List ℕ). Some n) (sym is)) l.2 in
+    let t = thawed_at files (option_map string_bytes line.reload) given line.options file (Some l.0) r
+    (ap (option_map string_bytes) c.in-Some.is ∙ ap (λ (n : List ℕ). Some n) (sym is)) l.2 in
     let k = missing_so given (files given) line.options file (Some l.0) r (rw known.0.1 at (c.in-None-open.ensures known.0.0)) t in
     let name = unwrap_or (option_map string_bytes line.freeze) [] in
     ends_as c.close_unopened.result.failure name given file (unreloaded given) r c.close_unopened.result.status _ e k

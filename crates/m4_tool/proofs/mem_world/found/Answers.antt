@@ -6,4 +6,6 @@ use Rattle.m4_tool.proofs.mem_world.found.Goals as goal
 
 pub returns-then-eq : goal.returns-then-eq
 returns-then-eq c = ap (λ (o : Option Script). Some o) c.new.ensures.script
-    ∙ ap (option_map (λ (s : Script). Some s)) (sym (given_here c.args.given.now c.loop-file.file-index _ c.args.name.now c.loop-file-test.true (sym c.eq.ensures ∙ c.if-eq.true) c.loop-file.invariant))
+    ∙ ap (option_map (λ (s : Script). Some s))
+    (sym (given_here c.args.given.now c.loop-file.file-index _ c.args.name.now c.loop-file-test.true
+    (sym c.eq.ensures ∙ c.if-eq.true) c.loop-file.invariant))

@@ -10,7 +10,8 @@ use Rattle.m4_frozen.proofs.NamedRead.{named_since}
 use Rattle.m4_frozen.proofs.loading.Loading.advance.Goals as goal
 
 -- what is read of the bytes of a block is read of the block
-on_block : (Before : List ℕ → Type 0) (bytes block : List ℕ) (new : Loading) (r : Result Pause ReadStop) → bytes ≡ block → ReadsOn Before bytes new r → ReadsOn Before block new r
+on_block : (Before : List ℕ → Type 0) (bytes block : List ℕ) (new : Loading) (r : Result Pause ReadStop) → bytes ≡ block
+    → ReadsOn Before bytes new r → ReadsOn Before block new r
 on_block Before bytes block new r same h = subst (λ (x : List ℕ). ReadsOn Before x new r) same h
 
 pub returns-in_ok-after-in-Some-Diversion : goal.returns-in_ok-after-in-Some-Diversion
@@ -39,7 +40,9 @@ pub returns-in_err-after-in-Some-Diversion : goal.returns-in_err-after-in-Some-D
 returns-in_err-after-in-Some-Diversion c =
     let p = err_from_is_err_and c.from_residual.result c.from_residual.ensures.1 in
     let mid : Loading = record c.args.self.now { begun = c.take.new.self } in
-    rw (p.1, p.2) (on_block (λ read. IsRead read c.args.self.now) _ _ c.read_diverted.new.self (Err _) c.as_slice-bytes.ensures.value (text_stopped (λ read. HasReadIn read mid c.in-Some-Diversion.missing) (λ read. IsRead read c.args.self.now)
+    rw (p.1, p.2) (on_block (λ read. IsRead read c.args.self.now) _ _ c.read_diverted.new.self (Err _)
+    c.as_slice-bytes.ensures.value
+    (text_stopped (λ read. HasReadIn read mid c.in-Some-Diversion.missing) (λ read. IsRead read c.args.self.now)
     c.as_slice-bytes.result.now c.read_diverted.new.self c.read_diverted.new.self c.in_err-after-in-Some-Diversion.field-0.0
     (λ read h. diverted_since read c.args.self.now c.take.result c.take.new.self c.in-Some-Diversion.missing
     c.take.ensures.value (rw (← c.in-Some-Diversion.field-0-is) c.in-Some-Diversion.is) h)
@@ -49,7 +52,9 @@ pub returns-in_err-after-in-Some-Name : goal.returns-in_err-after-in-Some-Name
 returns-in_err-after-in-Some-Name c =
     let p = err_from_is_err_and c.from_residual-in_err-after-in-Some-Name.result c.from_residual-in_err-after-in-Some-Name.ensures.1 in
     let mid : Loading = record c.args.self.now { begun = c.take.new.self } in
-    rw (p.1, p.2) (on_block (λ read. IsRead read c.args.self.now) _ _ c.read_named.new.self (Err _) c.as_slice-bytes.ensures.value (text_stopped (λ read. HasReadNamed read mid c.in-Some-Name.text) (λ read. IsRead read c.args.self.now)
+    rw (p.1, p.2) (on_block (λ read. IsRead read c.args.self.now) _ _ c.read_named.new.self (Err _)
+    c.as_slice-bytes.ensures.value
+    (text_stopped (λ read. HasReadNamed read mid c.in-Some-Name.text) (λ read. IsRead read c.args.self.now)
     c.as_slice-bytes.result.now c.read_named.new.self c.read_named.new.self c.in_err-after-in-Some-Name.field-0.0
     (λ read h. named_since read c.args.self.now c.take.result c.take.new.self c.in-Some-Name.text
     c.take.ensures.value (rw (← c.in-Some-Name.field-0-is) c.in-Some-Name.is) h)

@@ -34,7 +34,8 @@ returns-in_err-after c =
     let some : c.split_at.result.1.now ≢ [] =
     some_if c.split_at.result.1.now (sym c.is_empty.ensures ∙ c.if-is_empty.false) in
     rw (p.1, p.2) (λ read h. text_refused read c.args.bytes.now c.split_at.result.0.now
-    c.split_at.result.1.now c.args.self.now h.directives (Diversion h.number) h.came c.args.missing c.in_err-after.field-0.0 (two_parts c.args.bytes.now c.split_at.result.0.now c.split_at.result.1.now c.min.result
+    c.split_at.result.1.now c.args.self.now h.directives (Diversion h.number) h.came c.args.missing
+    c.in_err-after.field-0.0 (two_parts c.args.bytes.now c.split_at.result.0.now c.split_at.result.1.now c.min.result
     c.split_at.ensures.front c.split_at.ensures.back) (all_came c.args.bytes.now c.split_at.result.0.now c.split_at.result.1.now c.args.missing
     c.min.result c.split_at.ensures.front c.split_at.ensures.back c.split_at.ensures.front_len
     c.min.ensures (sym c.is_empty.ensures ∙ c.if-is_empty.false)) some

@@ -5,7 +5,8 @@ use Rattle.m4_frozen.proofs.loading.Loading.read_whole.Goals as goal
 pub read_texts-requires-clause-end : goal.read_texts-requires-clause-end
 read_texts-requires-clause-end c =
     end_skipped c.args.block.now c.loop-after.rest.now c.skip_lines-inside.result.1.now c.loop-after.self.inside c.skip_lines-inside.result.0
-    (end_after c.args.block.now c.args.bytes.now c.loop-after.rest.now c.args.self.now c.loop-after.self c.requires.end c.loop-after.invariant) c.skip_lines-inside.ensures
+    (end_after c.args.block.now c.args.bytes.now c.loop-after.rest.now c.args.self.now c.loop-after.self c.requires.end
+    c.loop-after.invariant) c.skip_lines-inside.ensures
 
 pub loop-after-preserved : goal.loop-after-preserved
 loop-after-preserved c =
@@ -13,7 +14,8 @@ loop-after-preserved c =
     advanced_more c.args.bytes.now c.in_ok-after.after.now c.skip_lines-inside-in-loop-after.result.1.now
     c.in-Some.after.now c.args.self.now c.read_texts.new.self c.read_one.new.self
     c.skip_lines-inside-in-loop-after.result.0
-    (advanced_on c.args.bytes.now c.loop-after.rest.now c.skip_lines-inside.result.1.now c.in_ok-after.after.now c.args.self.now c.loop-after.self c.read_texts.new.self
+    (advanced_on c.args.bytes.now c.loop-after.rest.now c.skip_lines-inside.result.1.now c.in_ok-after.after.now
+    c.args.self.now c.loop-after.self c.read_texts.new.self
     c.skip_lines-inside.result.0 c.loop-after.invariant c.skip_lines-inside.ensures c.in_ok-after.ensures)
     c.skip_lines-inside-in-loop-after.ensures one
 
@@ -22,7 +24,8 @@ returns-in-None c = λ read h.
     let o = rw c.in-None.is at c.in-Ok.ensures in
     rw o.2 (paused_at_end c.args.bytes.now c.in_ok-after.after.now c.skip_lines-inside-in-loop-after.result.1.now
     c.args.self.now c.read_texts.new.self c.skip_lines-inside-in-loop-after.result.0 read
-    (advanced_on c.args.bytes.now c.loop-after.rest.now c.skip_lines-inside.result.1.now c.in_ok-after.after.now c.args.self.now c.loop-after.self c.read_texts.new.self
+    (advanced_on c.args.bytes.now c.loop-after.rest.now c.skip_lines-inside.result.1.now c.in_ok-after.after.now
+    c.args.self.now c.loop-after.self c.read_texts.new.self
     c.skip_lines-inside.result.0 c.loop-after.invariant c.skip_lines-inside.ensures c.in_ok-after.ensures)
     c.skip_lines-inside-in-loop-after.ensures o.0 o.1 c.requires.whole h)
 
@@ -31,7 +34,8 @@ returns-in-Err c =
     advance_stopped c.args.bytes.now c.in_ok-after.after.now c.skip_lines-inside-in-loop-after.result.1.now
     c.args.self.now c.read_texts.new.self c.read_one.new.self c.pause_at.new.self
     c.skip_lines-inside-in-loop-after.result.0 c.in-Err.stop c.pause_at.result c.requires.whole
-    (advanced_on c.args.bytes.now c.loop-after.rest.now c.skip_lines-inside.result.1.now c.in_ok-after.after.now c.args.self.now c.loop-after.self c.read_texts.new.self
+    (advanced_on c.args.bytes.now c.loop-after.rest.now c.skip_lines-inside.result.1.now c.in_ok-after.after.now
+    c.args.self.now c.loop-after.self c.read_texts.new.self
     c.skip_lines-inside.result.0 c.loop-after.invariant c.skip_lines-inside.ensures c.in_ok-after.ensures)
     c.skip_lines-inside-in-loop-after.ensures c.in-Err.ensures c.pause_at.ensures
 

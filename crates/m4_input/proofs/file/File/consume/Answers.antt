@@ -7,7 +7,9 @@ use Rattle.m4_input.specs.Text.{HeldText, text_in, text_after}
 use Rattle.m4_input.proofs.Parts.{counted_is, counted_none}
 use Rattle.m4_input.proofs.Files.{between, taken, pushed_taken, no_newlines_between}
 use Rattle.m4_input.proofs.file.File.consume.Goals as goal
-use Rattle.m4_input.proofs.file.File.consume.Goals.{then-not-inline+then-n-self, else-not-inline, else-not-inline-via-then-not-inline+else-n-self, else-not-inline-via-else-not-inline}
+use Rattle.m4_input.proofs.file.File.consume.Goals.{then-not-inline+then-n-self, else-not-inline}
+use Rattle.m4_input.proofs.file.File.consume.Goals.{else-not-inline-via-then-not-inline+else-n-self}
+use Rattle.m4_input.proofs.file.File.consume.Goals.{else-not-inline-via-else-not-inline}
 
 -- the text of these fields after n bytes
 abbrev after : ℕ → Inside → HeldText
@@ -38,7 +40,10 @@ returns c =
             | else-not-inline-via-then-not-inline+else-n-self v ↦ pushed_taken f.pushed n f.newlines left (omega (arith, v.if-n-self.false)) c.self.invariant.1
             | else-not-inline-via-else-not-inline v ↦
                 taken f.pushed n f.newlines f.newlines left c.self.invariant.1
-                (sym (counted_none f.newlines) ∙ ap (counted f.newlines) (sym (no_newlines_between n f.pushed left (ap (λ (x : List ℕ). newlines_in (take n x)) (sym all) ∙ c.requires.inline (search rules)))))
+                (sym (counted_none f.newlines)
+                ∙ ap (counted f.newlines) (sym
+                (no_newlines_between n f.pushed left
+                (ap (λ (x : List ℕ). newlines_in (take n x)) (sym all) ∙ c.requires.inline (search rules)))))
           ] in
           ap (after n) w.self-inside-is
           ∙ ap (λ (x : List ℕ). split_at (f.pushed - n) x f.newlines) (sym (drop-drop n f.at f.bytes.items)) ∙ none

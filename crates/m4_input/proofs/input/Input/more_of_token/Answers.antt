@@ -34,7 +34,9 @@ blocks-2-init g c =
       | in-Some w ↦ let none : c.match-self.open ≡ None = search rules in absurd cc
       | in-None w ↦
           let found : w.open_token-open.result ≡ Some c.in-Some-open.token = sym w.open-is ∙ some in
-          let is : IsOpenAt q d c.in-Some-open.token (text_in c.self.inside.text) = subst (λ (o : Option OpenToken). IfSome o (λ t. IsOpenAt q d t (text_in c.self.inside.text))) found w.open_token-open.ensures in (
+          let is : IsOpenAt q d c.in-Some-open.token (text_in c.self.inside.text) =
+          subst (λ (o : Option OpenToken). IfSome o (λ t. IsOpenAt q d t (text_in c.self.inside.text))) found
+          w.open_token-open.ensures in (
             ap (λ (k : Held). k.pending.definition) (sym same) ∙ w.in-None.is,
             subst (IsOpenAt q d c.in-Some-open.token) (ap (λ (k : Held). text_of k.pending) same) is,
           )
@@ -49,7 +51,8 @@ blocks-2-preserved g c =
     let n : ℕ = g.R.ByteSource.failures c.blocks-2.reader in
     let new : Held = c.more-in-blocks-2.new.self in
     let text : text_in c.self-in-blocks-2.inside.text ≡ text_of new.pending = ap (λ (h : Held). text_of h.pending) c.self-in-blocks-2.view_is in
-    let k = come_open q d (g.R.ByteSource.script c.args.reader.now) (g.R.ByteSource.script c.blocks-2.reader) (g.R.ByteSource.script c.more-in-blocks-2.new.reader)
+    let k = come_open q d (g.R.ByteSource.script c.args.reader.now) (g.R.ByteSource.script c.blocks-2.reader)
+    (g.R.ByteSource.script c.more-in-blocks-2.new.reader)
     c.args.self.now c.blocks-2.self new i.0.0 c.in_ok-more.field-0 i.0.1 i.1 c.in_ok-more.ensures.gives c.if-branch.true
     (ap (scan q d true) (sym text) ∙ c.in-Some-still_open.ensures.1) in
     let falls : g.R.ByteSource.takes_left c.more-in-blocks-2.new.reader < g.R.ByteSource.takes_left c.blocks-2.reader =
@@ -79,14 +82,16 @@ returns-in_default-clause-gives g c =
 pub returns-else-branch-clause-gives : goal.returns-else-branch-clause-gives
 returns-else-branch-clause-gives g c =
     let i = c.blocks-2.invariant in
-    come_more c.args.delims.now.quotes.now c.args.delims.now.comments.now (g.R.ByteSource.script c.args.reader.now) (g.R.ByteSource.script c.blocks-2.reader) (g.R.ByteSource.script c.more-in-blocks-2.new.reader)
+    come_more c.args.delims.now.quotes.now c.args.delims.now.comments.now (g.R.ByteSource.script c.args.reader.now)
+    (g.R.ByteSource.script c.blocks-2.reader) (g.R.ByteSource.script c.more-in-blocks-2.new.reader)
     c.args.self.now c.blocks-2.self c.more-in-blocks-2.new.self i.0.0 c.in_ok-more.field-0 i.0.1 c.in_ok-more.ensures.gives
 
 -- the token is closed
 pub returns-in-None-still_open-clause-gives : goal.returns-in-None-still_open-clause-gives
 returns-in-None-still_open-clause-gives g c =
     let i = c.blocks-2.invariant in
-    come_more c.args.delims.now.quotes.now c.args.delims.now.comments.now (g.R.ByteSource.script c.args.reader.now) (g.R.ByteSource.script c.blocks-2.reader) (g.R.ByteSource.script c.more-in-blocks-2.new.reader)
+    come_more c.args.delims.now.quotes.now c.args.delims.now.comments.now (g.R.ByteSource.script c.args.reader.now)
+    (g.R.ByteSource.script c.blocks-2.reader) (g.R.ByteSource.script c.more-in-blocks-2.new.reader)
     c.args.self.now c.blocks-2.self c.more-in-blocks-2.new.self i.0.0 c.in_ok-more.field-0 i.0.1 c.in_ok-more.ensures.gives
 
 pub returns-in-None-still_open-clause-falls : goal.returns-in-None-still_open-clause-falls

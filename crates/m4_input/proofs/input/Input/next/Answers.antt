@@ -26,8 +26,10 @@ returns-in-Some-take-clause-gives g c =
     let new : Held = record old { pending = record old.pending { definition = c.take.new.self } } in
     let there : c.self.inside.definition ≡ Some c.in-Some-take.def = sym c.in-Some-take.ensures.value in
     let sound : c.self.inside.fault ≡ None = c.in_default.is in
-    let gone : new ≡ record old { pending = record old.pending { definition = None } } = ap (λ (d : Option Def). record old { pending = record old.pending { definition = d } }) c.in-Some-take.ensures.after in
-    subst (λ (h : Held). NextGives q r s s h new (Ok (Definition c.in-Some-take.def))) c.self.view_is (definition_taken q r s old new c.in-Some-take.def there gone sound)
+    let gone : new ≡ record old { pending = record old.pending { definition = None } } =
+    ap (λ (d : Option Def). record old { pending = record old.pending { definition = d } }) c.in-Some-take.ensures.after in
+    subst (λ (h : Held). NextGives q r s s h new (Ok (Definition c.in-Some-take.def))) c.self.view_is
+    (definition_taken q r s old new c.in-Some-take.def there gone sound)
 
 -- the fault of an earlier call
 pub returns-in-Some-clause-gives : goal.returns-in-Some-clause-gives
@@ -45,9 +47,11 @@ returns-in-Ok-Found-clause-gives g c =
     let h : Held = c.looks.self in
     let i = c.looks.invariant in
     let look : c.in-Ok-Found.field-0 ≡ scan q r (h.pending).may_follow (text_of h.pending) =
-    token_seen q r c.self-in-looks.inside h c.in-Ok.others c.in-Ok.text.now c.in-Ok-Found.field-0 c.self-in-looks.view_is c.in-Ok.ensures.begins c.in-Ok.ensures.all
+    token_seen q r c.self-in-looks.inside h c.in-Ok.others c.in-Ok.text.now c.in-Ok-Found.field-0
+    c.self-in-looks.view_is c.in-Ok.ensures.begins c.in-Ok.ensures.all
     (c.look_by_kind-look.ensures.value ∙ sym c.in-Ok-Found.ensures.value) (λ o e. absurd cc) in
-    token_found q r s a c.args.self.now h i.0.0 c.in-Ok-Found.field-0 i.0.1 i.1 look c.consume.new.self c.in-Ok-Found.token c.in-Ok-Found.len c.in-Ok-Found.field-0-is c.consume.ensures
+    token_found q r s a c.args.self.now h i.0.0 c.in-Ok-Found.field-0 i.0.1 i.1 look c.consume.new.self
+    c.in-Ok-Found.token c.in-Ok-Found.len c.in-Ok-Found.field-0-is c.consume.ensures
 
 pub looks-smaller : goal.looks-smaller
 looks-smaller g c =
@@ -58,18 +62,23 @@ looks-smaller g c =
     let h : Held = c.looks.self in
     let i = c.looks.invariant in
     let look : c.in-Ok-NeedsMore.field-0 ≡ scan q r (h.pending).may_follow (text_of h.pending) =
-    token_seen q r c.self-in-looks.inside h c.in-Ok.others c.in-Ok.text.now c.in-Ok-NeedsMore.field-0 c.self-in-looks.view_is c.in-Ok.ensures.begins c.in-Ok.ensures.all
+    token_seen q r c.self-in-looks.inside h c.in-Ok.others c.in-Ok.text.now c.in-Ok-NeedsMore.field-0
+    c.self-in-looks.view_is c.in-Ok.ensures.begins c.in-Ok.ensures.all
     (c.look_by_kind-look.ensures.value ∙ sym c.in-Ok-NeedsMore.ensures.value) (λ o e. absurd cc) in
     let new : Held = c.more.new.self in
     let b = g.R.ByteSource.script c.more.new.reader in
     let came = c.in_ok-_came-in-Ok-NeedsMore-2._came in
     let gives = c.in_ok-_came-in-Ok-NeedsMore-2.ensures.gives in
     let may = token_open q r s a c.args.self.now h i.0.0 c.in-Ok-NeedsMore.field-0 i.0.1 i.1 look c.in-Ok-NeedsMore.field-0-is in
-    let fewer : blocks_left (new.pending).may_follow (g.R.ByteSource.takes_left c.more.new.reader) < blocks_left (h.pending).may_follow (g.R.ByteSource.takes_left c.looks.reader) =
-    blocks_fall (h.pending).may_follow (new.pending).may_follow (g.R.ByteSource.takes_left c.looks.reader) (g.R.ByteSource.takes_left c.more.new.reader) may (λ e. c.in_ok-_came-in-Ok-NeedsMore-2.ensures.falls (ap Ok (sym (came_is a b h new came gives) ∙ e))) in
+    let fewer : blocks_left (new.pending).may_follow (g.R.ByteSource.takes_left c.more.new.reader)
+    < blocks_left (h.pending).may_follow (g.R.ByteSource.takes_left c.looks.reader) =
+    blocks_fall (h.pending).may_follow (new.pending).may_follow (g.R.ByteSource.takes_left c.looks.reader)
+    (g.R.ByteSource.takes_left c.more.new.reader) may
+    (λ e. c.in_ok-_came-in-Ok-NeedsMore-2.ensures.falls (ap Ok (sym (came_is a b h new came gives) ∙ e))) in
     let longer : length (text_of new.pending) ≡ length (text_of h.pending) + length gives.0 = block_length a b h new came gives in
     let most : length gives.0 ≤ 4096 = gives.2 in
-    let all : length c.in-Ok.text.now ≡ length (text_of h.pending) = ap length (c.in-Ok.ensures.all c.if-others.false) ∙ ap (λ (k : Held). length (text_of k.pending)) c.self-in-looks.view_is in
+    let all : length c.in-Ok.text.now ≡ length (text_of h.pending) = ap length (c.in-Ok.ensures.all c.if-others.false)
+    ∙ ap (λ (k : Held). length (text_of k.pending)) c.self-in-looks.view_is in
     omega (arith, fewer, longer, most, all)
 
 pub looks-preserved : goal.looks-preserved
@@ -81,7 +90,8 @@ looks-preserved g c =
     let h : Held = c.looks.self in
     let i = c.looks.invariant in
     let look : c.in-Ok-NeedsMore.field-0 ≡ scan q r (h.pending).may_follow (text_of h.pending) =
-    token_seen q r c.self-in-looks.inside h c.in-Ok.others c.in-Ok.text.now c.in-Ok-NeedsMore.field-0 c.self-in-looks.view_is c.in-Ok.ensures.begins c.in-Ok.ensures.all
+    token_seen q r c.self-in-looks.inside h c.in-Ok.others c.in-Ok.text.now c.in-Ok-NeedsMore.field-0
+    c.self-in-looks.view_is c.in-Ok.ensures.begins c.in-Ok.ensures.all
     (c.look_by_kind-look.ensures.value ∙ sym c.in-Ok-NeedsMore.ensures.value) (λ o e. absurd cc) in
     let new : Held = c.more.new.self in
     let b = g.R.ByteSource.script c.more.new.reader in
@@ -90,7 +100,8 @@ looks-preserved g c =
     let gives = c.in_ok-_came-in-Ok-NeedsMore-2.ensures.gives in
     let m = token_more q r s a c.args.self.now h i.0.0 c.in-Ok-NeedsMore.field-0 i.0.1 i.1 look b new came c.in-Ok-NeedsMore.field-0-is gives in
     let longer : length (text_of new.pending) ≡ length (text_of h.pending) + length gives.0 = block_length a b h new came gives in
-    let within : length c.in-Ok.text.now ≤ length (text_of h.pending) = front_within c.self-in-looks.inside h c.in-Ok.text.now c.self-in-looks.view_is c.in-Ok.ensures.begins in (
+    let within : length c.in-Ok.text.now ≤ length (text_of h.pending) =
+    front_within c.self-in-looks.inside h c.in-Ok.text.now c.self-in-looks.view_is c.in-Ok.ensures.begins in (
       (m.0, m.1),
       m.2,
       c.in_ok-_came-in-Ok-NeedsMore-2.ensures.counted
@@ -109,7 +120,8 @@ looks-init g c =
     let h : Held = record v { pending = record v.pending { definition = c.take.new.self } } in
     let none : c.self.inside.definition ≡ None = sym c.take.ensures.value ∙ c.in_default-take.is in
     let gone : c.take.new.self ≡ None = c.take.ensures.after in
-    let e : h ≡ c.args.self.now = ap (λ (d : Option Def). let i : Held = record v { pending = record v.pending { definition = d } } in i) (gone ∙ sym none) ∙ c.self.view_is in
+    let e : h ≡ c.args.self.now = ap (λ (d : Option Def). let i : Held =
+    record v { pending = record v.pending { definition = d } } in i) (gone ∙ sym none) ∙ c.self.view_is in
     let sound : (c.args.self.now).fault ≡ None = ap (λ (i : Held). i.fault) (sym c.self.view_is) ∙ c.in_default.is in (
       ([], subst (λ (i : Held). HasAsked (wants_token q r) s s c.args.self.now i [] i.pending) (sym e) (none_asked (wants_token q r) s c.args.self.now sound)),
       gone,
@@ -127,13 +139,15 @@ returns-in_err-_came-in-Ok-NeedsMore-2-clause-gives g c =
     let h : Held = c.looks.self in
     let i = c.looks.invariant in
     let look : c.in-Ok-NeedsMore.field-0 ≡ scan q r (h.pending).may_follow (text_of h.pending) =
-    token_seen q r c.self-in-looks.inside h c.in-Ok.others c.in-Ok.text.now c.in-Ok-NeedsMore.field-0 c.self-in-looks.view_is c.in-Ok.ensures.begins c.in-Ok.ensures.all
+    token_seen q r c.self-in-looks.inside h c.in-Ok.others c.in-Ok.text.now c.in-Ok-NeedsMore.field-0
+    c.self-in-looks.view_is c.in-Ok.ensures.begins c.in-Ok.ensures.all
     (c.look_by_kind-look.ensures.value ∙ sym c.in-Ok-NeedsMore.ensures.value) (λ o e. absurd cc) in
     let new : Held = c.more.new.self in
     let b = g.R.ByteSource.script c.more.new.reader in
     let f : InputFault = c.in_err-_came-in-Ok-NeedsMore-2.field-0.0 in
     let stops : NextGives q r s b c.args.self.now new (Err f) =
-    token_stops q r s a c.args.self.now h i.0.0 c.in-Ok-NeedsMore.field-0 i.0.1 i.1 look b new f c.in-Ok-NeedsMore.field-0-is c.in_err-_came-in-Ok-NeedsMore-2.ensures.gives in
+    token_stops q r s a c.args.self.now h i.0.0 c.in-Ok-NeedsMore.field-0 i.0.1 i.1 look b new f
+    c.in-Ok-NeedsMore.field-0-is c.in_err-_came-in-Ok-NeedsMore-2.ensures.gives in
     let same : Err f ≡ c.from_residual.result = search rules in
     subst (NextGives q r s b c.args.self.now new) same stops
 
@@ -146,15 +160,18 @@ returns-in-Ok-Broken-clause-gives g c =
     let h : Held = c.looks.self in
     let i = c.looks.invariant in
     let look : c.in-Ok-Broken.field-0 ≡ scan q r (h.pending).may_follow (text_of h.pending) =
-    token_seen q r c.self-in-looks.inside h c.in-Ok.others c.in-Ok.text.now c.in-Ok-Broken.field-0 c.self-in-looks.view_is c.in-Ok.ensures.begins c.in-Ok.ensures.all
+    token_seen q r c.self-in-looks.inside h c.in-Ok.others c.in-Ok.text.now c.in-Ok-Broken.field-0
+    c.self-in-looks.view_is c.in-Ok.ensures.begins c.in-Ok.ensures.all
     (c.look_by_kind-look.ensures.value ∙ sym c.in-Ok-Broken.ensures.value) (λ o e. absurd cc) in
-    let gives = token_broken q r s a c.args.self.now h i.0.0 c.in-Ok-Broken.field-0 i.0.1 i.1 look c.end_inside.new.self c.in-Ok-Broken.what c.in-Ok-Broken.field-0-is c.end_inside.ensures.nothing in
+    let gives = token_broken q r s a c.args.self.now h i.0.0 c.in-Ok-Broken.field-0 i.0.1 i.1 look c.end_inside.new.self
+    c.in-Ok-Broken.what c.in-Ok-Broken.field-0-is c.end_inside.ensures.nothing in
     subst (λ (f : InputFault). NextGives q r s a c.args.self.now c.end_inside.new.self (Err f)) (sym c.end_inside.ensures.fault) gives
 
 pub looks-smaller-then-others : goal.looks-smaller-then-others
 looks-smaller-then-others g c =
     let h : Held = c.looks.self in
-    let within : length c.in-Ok.text.now ≤ length (text_of h.pending) = front_within c.self-in-looks.inside h c.in-Ok.text.now c.self-in-looks.view_is c.in-Ok.ensures.begins in
+    let within : length c.in-Ok.text.now ≤ length (text_of h.pending) =
+    front_within c.self-in-looks.inside h c.in-Ok.text.now c.self-in-looks.view_is c.in-Ok.ensures.begins in
     let more : c.looks.looked < length c.in-Ok.text.now = c.in-Ok.ensures.longer c.if-others.true in
     omega (arith, within, more)
 
@@ -167,7 +184,8 @@ more-requires-clause-open g c =
     let h : Held = c.looks.self in
     let i = c.looks.invariant in
     let look : c.in-Ok-NeedsMore.field-0 ≡ scan q r (h.pending).may_follow (text_of h.pending) =
-    token_seen q r c.self-in-looks.inside h c.in-Ok.others c.in-Ok.text.now c.in-Ok-NeedsMore.field-0 c.self-in-looks.view_is c.in-Ok.ensures.begins c.in-Ok.ensures.all
+    token_seen q r c.self-in-looks.inside h c.in-Ok.others c.in-Ok.text.now c.in-Ok-NeedsMore.field-0
+    c.self-in-looks.view_is c.in-Ok.ensures.begins c.in-Ok.ensures.all
     (c.look_by_kind-look.ensures.value ∙ sym c.in-Ok-NeedsMore.ensures.value) (λ o e. absurd cc) in
     token_open q r s a c.args.self.now h i.0.0 c.in-Ok-NeedsMore.field-0 i.0.1 i.1 look c.in-Ok-NeedsMore.field-0-is
 

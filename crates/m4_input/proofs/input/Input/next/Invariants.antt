@@ -7,7 +7,8 @@ use Rattle.m4_input.proofs.input.Input.next.Given as goal
 
 abbrev pub invariant-looks : goal.invariant-looks
 invariant-looks g l =
-    ((x : List ℕ) × HasAsked (wants_token l.delims.quotes.now l.delims.comments.now) (g.R.ByteSource.script l.fn.reader) (g.R.ByteSource.script l.reader) l.fn.self l.self x (l.self).pending)
+    ((x : List ℕ) × HasAsked (wants_token l.delims.quotes.now l.delims.comments.now) (g.R.ByteSource.script l.fn.reader)
+    (g.R.ByteSource.script l.reader) l.fn.self l.self x (l.self).pending)
     × (((l.self).pending).definition ≡ None)
     × (g.R.ByteSource.failures l.reader ≡ g.R.ByteSource.failures l.fn.reader)
     × (l.looked ≤ length (text_of (l.self).pending))

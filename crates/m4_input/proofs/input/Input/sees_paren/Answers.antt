@@ -17,7 +17,8 @@ pub returns-in-Some-clause-gives : goal.returns-in-Some-clause-gives
 returns-in-Some-clause-gives g c =
     let e : (c.args.self.now).fault ≡ Some c.in-Some.fault = ap (λ (h : Held). h.fault) (sym c.self.view_is) ∙ c.in-Some.is in
     let l : IsLasting c.in-Some.fault = subst (λ (o : Option InputFault). IfSome o IsLasting) c.in-Some.is c.self.invariant in
-    let k = stopped_before (wants_list c.args.delims.now.quotes.now c.args.delims.now.comments.now) (g.R.ByteSource.script c.args.reader.now) c.args.self.now c.in-Some.fault e l in
+    let k = stopped_before (wants_list c.args.delims.now.quotes.now c.args.delims.now.comments.now)
+    (g.R.ByteSource.script c.args.reader.now) c.args.self.now c.in-Some.fault e l in
     ([], k.0, k.1)
 
 pub looks-preserved : goal.looks-preserved
@@ -33,11 +34,16 @@ looks-preserved g c =
     let n : ℕ = g.R.ByteSource.failures c.looks.reader in
     let came = c.in_ok-_came-in-Unknown-2._came in
     let seen : paren_in q r (h.pending).may_follow (text_of h.pending) ≡ Unknown =
-    list_seen q r c.self-in-looks.inside h c.in-Ok.others c.in-Ok.text.now Unknown c.self-in-looks.view_is c.in-Ok.ensures.begins c.in-Ok.ensures.all c.in-Unknown.ensures (λ o e. absurd cc) in
+    list_seen q r c.self-in-looks.inside h c.in-Ok.others c.in-Ok.text.now Unknown c.self-in-looks.view_is
+    c.in-Ok.ensures.begins c.in-Ok.ensures.all c.in-Unknown.ensures (λ o e. absurd cc) in
     let w : wants_list q r h.pending = ap (λ (o : Option Def). paren_from o q r h.pending) i.1 ∙ seen in
-    let m = asked_more (wants_list q r) s a b c.args.self.now h new i.0.0 h.pending came i.0.1 (paren_open q r (h.pending).may_follow (text_of h.pending) seen) w c.in_ok-_came-in-Unknown-2.ensures.gives in
-    let longer : length (text_of new.pending) ≡ length (text_of h.pending) + length c.in_ok-_came-in-Unknown-2.ensures.gives.0 = block_length a b h new came c.in_ok-_came-in-Unknown-2.ensures.gives in
-    let within : length c.in-Ok.text.now ≤ length (text_of h.pending) = front_within c.self-in-looks.inside h c.in-Ok.text.now c.self-in-looks.view_is c.in-Ok.ensures.begins in (
+    let m = asked_more (wants_list q r) s a b c.args.self.now h new i.0.0 h.pending came i.0.1
+    (paren_open q r (h.pending).may_follow (text_of h.pending) seen) w c.in_ok-_came-in-Unknown-2.ensures.gives in
+    let longer : length (text_of new.pending)
+    ≡ length (text_of h.pending) + length c.in_ok-_came-in-Unknown-2.ensures.gives.0 =
+    block_length a b h new came c.in_ok-_came-in-Unknown-2.ensures.gives in
+    let within : length c.in-Ok.text.now ≤ length (text_of h.pending) =
+    front_within c.self-in-looks.inside h c.in-Ok.text.now c.self-in-looks.view_is c.in-Ok.ensures.begins in (
       (i.0.0 ++ m.0, subst (HasAsked (wants_list q r) s b c.args.self.now new (i.0.0 ++ m.0)) (sym m.2) m.1),
       ap (λ (p : Pending). p.definition) m.2 ∙ i.1,
       c.in_ok-_came-in-Unknown-2.ensures.counted
@@ -64,13 +70,18 @@ looks-smaller g c =
     let came = c.in_ok-_came-in-Unknown-2._came in
     let gives = c.in_ok-_came-in-Unknown-2.ensures.gives in
     let seen : paren_in q r (h.pending).may_follow (text_of h.pending) ≡ Unknown =
-    list_seen q r c.self-in-looks.inside h c.in-Ok.others c.in-Ok.text.now Unknown c.self-in-looks.view_is c.in-Ok.ensures.begins c.in-Ok.ensures.all c.in-Unknown.ensures (λ o e. absurd cc) in
+    list_seen q r c.self-in-looks.inside h c.in-Ok.others c.in-Ok.text.now Unknown c.self-in-looks.view_is
+    c.in-Ok.ensures.begins c.in-Ok.ensures.all c.in-Unknown.ensures (λ o e. absurd cc) in
     let may = paren_open q r (h.pending).may_follow (text_of h.pending) seen in
-    let fewer : blocks_left (new.pending).may_follow (g.R.ByteSource.takes_left c.more.new.reader) < blocks_left (h.pending).may_follow (g.R.ByteSource.takes_left c.looks.reader) =
-    blocks_fall (h.pending).may_follow (new.pending).may_follow (g.R.ByteSource.takes_left c.looks.reader) (g.R.ByteSource.takes_left c.more.new.reader) may (λ e. c.in_ok-_came-in-Unknown-2.ensures.falls (ap Ok (sym (came_is a b h new came gives) ∙ e))) in
+    let fewer : blocks_left (new.pending).may_follow (g.R.ByteSource.takes_left c.more.new.reader)
+    < blocks_left (h.pending).may_follow (g.R.ByteSource.takes_left c.looks.reader) =
+    blocks_fall (h.pending).may_follow (new.pending).may_follow (g.R.ByteSource.takes_left c.looks.reader)
+    (g.R.ByteSource.takes_left c.more.new.reader) may
+    (λ e. c.in_ok-_came-in-Unknown-2.ensures.falls (ap Ok (sym (came_is a b h new came gives) ∙ e))) in
     let longer : length (text_of new.pending) ≡ length (text_of h.pending) + length gives.0 = block_length a b h new came gives in
     let most : length gives.0 ≤ 4096 = gives.2 in
-    let all : length c.in-Ok.text.now ≡ length (text_of h.pending) = ap length (c.in-Ok.ensures.all c.if-others.false) ∙ ap (λ (k : Held). length (text_of k.pending)) c.self-in-looks.view_is in
+    let all : length c.in-Ok.text.now ≡ length (text_of h.pending) = ap length (c.in-Ok.ensures.all c.if-others.false)
+    ∙ ap (λ (k : Held). length (text_of k.pending)) c.self-in-looks.view_is in
     omega (arith, fewer, longer, most, all)
 
 pub looks-smaller-then-others : goal.looks-smaller-then-others
@@ -79,7 +90,8 @@ looks-smaller-then-others g c =
     let r = c.args.delims.now.comments.now in
     let h : Held = c.looks.self in
     let i = c.looks.invariant in
-    let within : length c.in-Ok.text.now ≤ length (text_of h.pending) = front_within c.self-in-looks.inside h c.in-Ok.text.now c.self-in-looks.view_is c.in-Ok.ensures.begins in
+    let within : length c.in-Ok.text.now ≤ length (text_of h.pending) =
+    front_within c.self-in-looks.inside h c.in-Ok.text.now c.self-in-looks.view_is c.in-Ok.ensures.begins in
     let more : c.looks.looked < length c.in-Ok.text.now = c.in-Ok.ensures.longer c.if-others.true in
     omega (arith, within, more)
 
@@ -90,7 +102,8 @@ returns-in-Yes-clause-gives g c =
     let h : Held = c.looks.self in
     let i = c.looks.invariant in
     let seen : paren_in q r (h.pending).may_follow (text_of h.pending) ≡ Yes =
-    list_seen q r c.self-in-looks.inside h c.in-Ok.others c.in-Ok.text.now Yes c.self-in-looks.view_is c.in-Ok.ensures.begins c.in-Ok.ensures.all c.in-Yes.ensures (λ o e. absurd cc) in
+    list_seen q r c.self-in-looks.inside h c.in-Ok.others c.in-Ok.text.now Yes c.self-in-looks.view_is
+    c.in-Ok.ensures.begins c.in-Ok.ensures.all c.in-Yes.ensures (λ o e. absurd cc) in
     let k = i.0.1 in
     (i.0.0, k.reads, ap (λ (o : Option Def). paren_from o q r h.pending) i.1 ∙ seen, k.first, k.sound, k.asks)
 
@@ -101,7 +114,8 @@ returns-in-No-clause-gives g c =
     let h : Held = c.looks.self in
     let i = c.looks.invariant in
     let seen : paren_in q r (h.pending).may_follow (text_of h.pending) ≡ No =
-    list_seen q r c.self-in-looks.inside h c.in-Ok.others c.in-Ok.text.now No c.self-in-looks.view_is c.in-Ok.ensures.begins c.in-Ok.ensures.all c.in-No.ensures (λ o e. absurd cc) in
+    list_seen q r c.self-in-looks.inside h c.in-Ok.others c.in-Ok.text.now No c.self-in-looks.view_is
+    c.in-Ok.ensures.begins c.in-Ok.ensures.all c.in-No.ensures (λ o e. absurd cc) in
     let k = i.0.1 in
     (i.0.0, k.reads, ap (λ (o : Option Def). paren_from o q r h.pending) i.1 ∙ seen, k.first, k.sound, k.asks)
 
@@ -117,9 +131,11 @@ returns-in_err-_came-in-Unknown-2-clause-gives g c =
     let b = g.R.ByteSource.script c.more.new.reader in
     let f : InputFault = c.in_err-_came-in-Unknown-2.field-0.0 in
     let seen : paren_in q r (h.pending).may_follow (text_of h.pending) ≡ Unknown =
-    list_seen q r c.self-in-looks.inside h c.in-Ok.others c.in-Ok.text.now Unknown c.self-in-looks.view_is c.in-Ok.ensures.begins c.in-Ok.ensures.all c.in-Unknown.ensures (λ o e. absurd cc) in
+    list_seen q r c.self-in-looks.inside h c.in-Ok.others c.in-Ok.text.now Unknown c.self-in-looks.view_is
+    c.in-Ok.ensures.begins c.in-Ok.ensures.all c.in-Unknown.ensures (λ o e. absurd cc) in
     let w : wants_list q r h.pending = ap (λ (o : Option Def). paren_from o q r h.pending) i.1 ∙ seen in
-    let m = asked_stops (wants_list q r) s a b c.args.self.now h new i.0.0 h.pending f i.0.1 (paren_open q r (h.pending).may_follow (text_of h.pending) seen) w c.in_err-_came-in-Unknown-2.ensures.gives in
+    let m = asked_stops (wants_list q r) s a b c.args.self.now h new i.0.0 h.pending f i.0.1
+    (paren_open q r (h.pending).may_follow (text_of h.pending) seen) w c.in_err-_came-in-Unknown-2.ensures.gives in
     let k : Stopped f s b c.args.self.now new i.0.0 new.pending × StopAsks (wants_list q r) f c.args.self.now i.0.0 new.pending =
     subst (λ (p : Pending). Stopped f s b c.args.self.now new i.0.0 p × StopAsks (wants_list q r) f c.args.self.now i.0.0 p) (sym m.2) (m.0, m.1) in
     let stops : ParenGives q r s b c.args.self.now new (Err f) = (i.0.0, k.0, k.1) in

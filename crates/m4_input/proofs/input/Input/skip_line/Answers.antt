@@ -14,8 +14,15 @@ returns-in-Some-clause-gives g c =
     ([], (c.args.self.now).pending, k.0, k.1, inl refl)
 
 pub blocks-2-init : goal.blocks-2-init
-blocks-2-init g c =
-    (([], (c.args.self.now).pending, none_skipped (g.R.ByteSource.script c.args.reader.now) c.args.self.now (ap (λ (h : Held). h.fault) (sym c.self.view_is) ∙ c.in_default.is)), refl)
+blocks-2-init g c = (
+  (
+    [],
+    (c.args.self.now).pending,
+    none_skipped (g.R.ByteSource.script c.args.reader.now) c.args.self.now
+        (ap (λ (h : Held). h.fault) (sym c.self.view_is) ∙ c.in_default.is),
+  ),
+  refl,
+)
 
 pub blocks-2-preserved : goal.blocks-2-preserved
 blocks-2-preserved g c =

@@ -17,17 +17,23 @@ segments-preserved c =
     let f = s.file in
     let left = c.segments.left in
     let top : c.replace-spent-in-segments.new.dest ≡ c.in-Some.next = c.replace-spent-in-segments.ensures.after in
-    let rests : joined s.below.items ≡ c.in-Some.next ++ joined c.pop.new.self.items = ap joined c.in-Some.ensures.items ∙ joined_push c.pop.new.self.items c.in-Some.next in
-    let long : length (joined s.below.items) ≡ length c.in-Some.next + length (joined c.pop.new.self.items) = ap length rests ∙ length-append c.in-Some.next (joined c.pop.new.self.items) in
+    let rests : joined s.below.items ≡ c.in-Some.next ++ joined c.pop.new.self.items = ap joined c.in-Some.ensures.items
+    ∙ joined_push c.pop.new.self.items c.in-Some.next in
+    let long : length (joined s.below.items) ≡ length c.in-Some.next + length (joined c.pop.new.self.items) =
+    ap length rests ∙ length-append c.in-Some.next (joined c.pop.new.self.items) in
     let all : length (text_in (view_of s)) ≡ (length s.top + length (joined s.below.items)) + length (text_in f) =
     ap length (text_first (s.top ++ joined s.below.items) f) ∙ length-append (s.top ++ joined s.below.items) (text_in f)
     ∙ ap (λ m. m + length (text_in f)) (length-append s.top (joined s.below.items)) in
-    let now : c.replace-spent-in-segments.new.dest ++ joined c.pop.new.self.items ≡ joined s.below.items = ap (λ (x : List ℕ). x ++ joined c.pop.new.self.items) top ∙ sym rests in
-    let new : length (text_in (with_text (c.replace-spent-in-segments.new.dest ++ joined c.pop.new.self.items) f)) ≡ length (joined s.below.items) + length (text_in f) =
-    ap (λ (x : List ℕ). length (text_in (with_text x f))) now ∙ ap length (text_first (joined s.below.items) f) ∙ length-append (joined s.below.items) (text_in f) in (
+    let now : c.replace-spent-in-segments.new.dest ++ joined c.pop.new.self.items ≡ joined s.below.items =
+    ap (λ (x : List ℕ). x ++ joined c.pop.new.self.items) top ∙ sym rests in
+    let new : length (text_in (with_text (c.replace-spent-in-segments.new.dest ++ joined c.pop.new.self.items) f))
+    ≡ length (joined s.below.items) + length (text_in f) =
+    ap (λ (x : List ℕ). length (text_in (with_text x f))) now ∙ ap length (text_first (joined s.below.items) f)
+    ∙ length-append (joined s.below.items) (text_in f) in (
       ap (λ (x : List ℕ). text_after (left - c.len-left.result) (with_text x f)) now
           ∙ ap (λ m. text_after (left - m) (with_text (joined s.below.items) f)) c.len-left.ensures.len
-          ∙ first_taken s.top (joined s.below.items) f left (omega (arith, c.segments-test.true, c.len.ensures.len, c.len-left.ensures.len)) ∙ c.segments.invariant.0,
+          ∙ first_taken s.top (joined s.below.items) f left
+          (omega (arith, c.segments-test.true, c.len.ensures.len, c.len-left.ensures.len)) ∙ c.segments.invariant.0,
       omega (arith, new, all, c.segments.invariant, c.len-left.ensures.len),
       (omega (arith, long, c.len-in-segments.ensures.len, c.segments.invariant), omega (arith, long, c.len-in-segments.ensures.len, c.segments.invariant)),
     )

@@ -13,7 +13,8 @@ overflow_sub-self c =
     let s : List ℕ = c.in-Some.next.now in
     let l : suc i ≡ length below = search (arith, c.in-Some.ensures.item) in
     let front : List (List ℕ) = take i (set below i s) in
-    let whole : length (joined below) ≡ length s + length (joined front) = ap length (last_below below front i s s s l c.in-Some.ensures.value refl) ∙ length-append s (joined front) in
+    let whole : length (joined below) ≡ length s + length (joined front) =
+    ap length (last_below below front i s s s l c.in-Some.ensures.value refl) ∙ length-append s (joined front) in
     omega (arith, whole, c.len-len.ensures.len, c.self.invariant)
 
 pub invariant_of-self-in-Some-pop : goal.invariant_of-self-in-Some-pop
@@ -27,7 +28,9 @@ invariant_of-self-in-Some-pop c =
     let put : c.put_before-2.new.self ≡ top ++ s = c.if-not-put_before-2.ensures.put refl ∙ ap (λ (x : List ℕ). x ++ s) c.rest-rest.ensures in
     let whole : length (joined below) ≡ length s + length (joined front) =
     ap length (last_below below front i s c.put_before-2.new.self s l c.in-Some.ensures.value c.in-Some-pop.ensures.rest) ∙ length-append s (joined front) in
-    let same : c.in-Some-pop.next ++ joined front ≡ c.put_before-2.new.self ++ joined front = last_put below front i c.put_before-2.new.self c.in-Some-pop.next l c.in-Some-pop.ensures.items c.in-Some-pop.ensures.rest in
+    let same : c.in-Some-pop.next ++ joined front ≡ c.put_before-2.new.self ++ joined front =
+    last_put below front i c.put_before-2.new.self c.in-Some-pop.next l c.in-Some-pop.ensures.items
+    c.in-Some-pop.ensures.rest in
     let long : length c.in-Some-pop.next + length (joined front) ≡ (length top + length s) + length (joined front) =
     sym (length-append c.in-Some-pop.next (joined front)) ∙ ap length same ∙ length-append c.put_before-2.new.self (joined front)
     ∙ ap (λ (x : List ℕ). length x + length (joined front)) put ∙ ap (λ n. n + length (joined front)) (length-append top s) in (

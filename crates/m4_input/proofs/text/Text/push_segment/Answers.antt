@@ -9,8 +9,11 @@ invariant_of-self-in-Ok c =
     let below : List (List ℕ) = c.self.inside.below.items in
     let top : List ℕ = c.self.inside.top in
     let items : c.push.new.self.items ≡ below ++ top ∷ [] = c.in-Ok.ensures.items ∙ ap (λ (x : List ℕ). below ++ x ∷ []) c.replace-top.ensures.value in
-    let long : length (joined c.push.new.self.items) ≡ length top + length (joined below) = ap (λ (x : List (List ℕ)). length (joined x)) items ∙ joined_length below top in
-    ((omega (arith, long, c.len.ensures.len, c.self.invariant), omega (arith, c.if-held-gt-LONGEST.false)), λ h. absurd (some_bytes c.args.segment (grind (arith, common_steps)) (sym c.replace-top.ensures.after ∙ h)))
+    let long : length (joined c.push.new.self.items) ≡ length top + length (joined below) =
+    ap (λ (x : List (List ℕ)). length (joined x)) items ∙ joined_length below top in (
+      (omega (arith, long, c.len.ensures.len, c.self.invariant), omega (arith, c.if-held-gt-LONGEST.false)),
+      λ h. absurd (some_bytes c.args.segment (grind (arith, common_steps)) (sym c.replace-top.ensures.after ∙ h)),
+    )
 
 pub returns-in-Ok-clause-ok : goal.returns-in-Ok-clause-ok
 returns-in-Ok-clause-ok c =

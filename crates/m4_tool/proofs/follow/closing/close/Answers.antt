@@ -17,8 +17,11 @@ returns-clause-closes g c = record {
   refused = c.report_refusal-is_reported.ensures.refused;
   failed = c.failure_after.ensures ∙ ap (λ f. failure_after f c.report_refusal-is_reported.result) c.failure_of-failure.ensures;
   output = c.flush_all-flushed.ensures.output;
-  reports = reports_after (refusals c.args.file.now c.args.ending.cause) (failure_lines (failure_of c.args.ending.cause c.flush_all-flushed.result)) _ _ _ _ _ _ _ _
-      c.flush_all-flushed.ensures.messages (flushed_grew c.flush_all-flushed.result _ c.flush_all-flushed.ensures.counted).1 c.report_refusal-is_reported.ensures.reports (rw c.failure_of-failure.ensures at c.report_last.ensures.reports);
+  reports = reports_after (refusals c.args.file.now c.args.ending.cause)
+      (failure_lines (failure_of c.args.ending.cause c.flush_all-flushed.result)) _ _ _ _ _ _ _ _
+      c.flush_all-flushed.ensures.messages
+      (flushed_grew c.flush_all-flushed.result _ c.flush_all-flushed.ensures.counted).1
+      c.report_refusal-is_reported.ensures.reports (rw c.failure_of-failure.ensures at c.report_last.ensures.reports);
   files = c.flush_all-flushed.ensures.files;
 }
 

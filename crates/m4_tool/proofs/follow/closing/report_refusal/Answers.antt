@@ -7,12 +7,14 @@ use Rattle.m4_tool.proofs.follow.closing.report_refusal.Goals as goal
 pub returns-then-is_ok-clause-reports : goal.returns-then-is_ok-clause-reports
 returns-then-is_ok-clause-reports g c =
     refusal_reported c.args.cause c.in-Frozen.field-0 c.args.file.now c.put_refused-put.result _ _ _ _ _ _
-    c.in-Frozen.is c.put_refused-put.ensures.puts c.put_refused-put.ensures.counted c.flush-shown.ensures.contents (grew_after c.flush-shown.result _ _ c.flush-shown.ensures.failures)
+    c.in-Frozen.is c.put_refused-put.ensures.puts c.put_refused-put.ensures.counted c.flush-shown.ensures.contents
+    (grew_after c.flush-shown.result _ _ c.flush-shown.ensures.failures)
 
 pub returns-else-is_ok-clause-reports : goal.returns-else-is_ok-clause-reports
 returns-else-is_ok-clause-reports g c =
     refusal_reported c.args.cause c.in-Frozen.field-0 c.args.file.now c.put_refused-put.result _ _ _ _ _ _
-    c.in-Frozen.is c.put_refused-put.ensures.puts c.put_refused-put.ensures.counted c.flush-shown.ensures.contents (grew_after c.flush-shown.result _ _ c.flush-shown.ensures.failures)
+    c.in-Frozen.is c.put_refused-put.ensures.puts c.put_refused-put.ensures.counted c.flush-shown.ensures.contents
+    (grew_after c.flush-shown.result _ _ c.flush-shown.ensures.failures)
 
 pub returns-then-is_ok-clause-refused : goal.returns-then-is_ok-clause-refused
 returns-then-is_ok-clause-refused g c = λ _. some_refused c.args.cause c.in-Frozen.field-0 c.args.file.now c.in-Frozen.is

@@ -18,7 +18,11 @@ returns-then-not-is_empty g c =
           (line_reported c.as_bytes-line.result.now _ _ _ _ (search rules) (
             g.M.ByteSink.contents c.write_all-put.new.writer,
             g.M.ByteSink.failures c.write_all-put.new.writer,
-            record { put = c.write_all-put.result; puts = c.write_all-put.ensures.puts; counted = grew_by c.write_all-put.result _ _ c.write_all-put.ensures.counted },
+            record {
+              put = c.write_all-put.result;
+              puts = c.write_all-put.ensures.puts;
+              counted = grew_by c.write_all-put.result _ _ c.write_all-put.ensures.counted;
+            },
             (c.flush-shown.ensures.contents, grew_after c.flush-shown.result _ _ c.flush-shown.ensures.failures),
           ));
     }

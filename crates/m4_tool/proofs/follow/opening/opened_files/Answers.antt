@@ -27,4 +27,5 @@ loop-file-preserved g c = (
 
 pub returns-clause-sources : goal.returns-clause-sources
 returns-clause-sources g c = λ fs input k.
-    all_opened g.W.Reader.ByteSource.script string_bytes fs input c.args.files.now c.loop-file.file-index c.loop-file.sources.items _ (search rules) (c.loop-file.invariant.4 fs input k.0.0 k.0.1 k.1)
+    all_opened g.W.Reader.ByteSource.script string_bytes fs input c.args.files.now c.loop-file.file-index
+    c.loop-file.sources.items _ (search rules) (c.loop-file.invariant.4 fs input k.0.0 k.0.1 k.1)

@@ -10,7 +10,9 @@ use Rattle.m4_tool.proofs.follow.running.run_line.Goals as goal
 
 pub returns-in_default-clause-ran : goal.returns-in_default-clause-ran
 returns-in_default-clause-ran g c = λ files input script ss k t e.
-    not_begun (unwrap_or (option_map string_bytes c.args.line.now.freeze) []) (defined c.args.line.now.options script ss) c.without_memory.result.ending _ _ _ _ _ c.without_memory.ensures.ending (ap g.W.World.files c.without_memory.ensures.world ∙ c.sources_of.ensures.files)
+    not_begun (unwrap_or (option_map string_bytes c.args.line.now.freeze) [])
+    (defined c.args.line.now.options script ss) c.without_memory.result.ending _ _ _ _ _
+    c.without_memory.ensures.ending (ap g.W.World.files c.without_memory.ensures.world ∙ c.sources_of.ensures.files)
 
 pub returns-in_default-name_of-clause-ran : goal.returns-in_default-name_of-clause-ran
 returns-in_default-name_of-clause-ran g c = λ files input script ss k t e.
@@ -21,8 +23,10 @@ returns-in_default-name_of-clause-ran g c = λ files input script ss k t e.
 
 pub returns-clause-ran : goal.returns-clause-ran
 returns-clause-ran g c = λ files input script ss k t e.
-    ran_as c.in-Ok-name_of.name (unwrap_or (option_map string_bytes c.args.line.now.freeze) []) (defined c.args.line.now.options script ss) c.run_late.result.ending
-    (g.O.ByteSink.contents c.args.out.now) (g.O.ByteSink.contents c.run_late.new.out) (g.M.ByteSink.contents c.args.messages.now) (g.M.ByteSink.contents c.run_late.new.messages)
+    ran_as c.in-Ok-name_of.name (unwrap_or (option_map string_bytes c.args.line.now.freeze) [])
+    (defined c.args.line.now.options script ss) c.run_late.result.ending
+    (g.O.ByteSink.contents c.args.out.now) (g.O.ByteSink.contents c.run_late.new.out)
+    (g.M.ByteSink.contents c.args.messages.now) (g.M.ByteSink.contents c.run_late.new.messages)
     (g.M.ByteSink.failures c.args.messages.now) (g.M.ByteSink.failures c.run_late.new.messages)
     (g.W.World.files c.sources_of.new.world) (g.W.World.files c.args.world) (g.W.World.files c.run_late.result.world)
     c.in-Ok-name_of.ensures c.sources_of.ensures.files
