@@ -15,8 +15,8 @@ inserted false text push = push
 abbrev pub effect_view : Inside → Effect
 effect_view e = record {
   push = inserted e.is_made e.buffer.items e.push;
-  messages = e.messages;
-  output = e.output;
+  messages = e.messages.items;
+  output = e.output.items;
   wrap = e.wrap;
   skip = e.skip;
   exit = e.exit;

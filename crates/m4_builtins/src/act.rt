@@ -22,7 +22,7 @@ use crate::ending::{m4exit, m4wrap};
 use crate::eval::eval;
 use crate::fault::BuiltinFault;
 use crate::indirect::{Step, builtin, indir, start};
-use crate::messages::{Warning, warn, warning_message};
+use crate::messages::{Warning, warn, warning_line};
 use crate::naming::{define, defn, popdef, pushdef, undefine};
 use crate::place::Place;
 use crate::printing::{dumpdef, errprint, file, line};
@@ -116,7 +116,7 @@ fn act_builtin<'a>(
     }
     match step {
         Step::Done => {
-            let warning = warning_message(effect.alloc(), place, Warning::Excess(builtin))?;
+            let warning = warning_line(effect.alloc(), place, Warning::Excess(builtin))?;
             effect.warn_first(warning)?;
             Ok(Step::Done)
         }

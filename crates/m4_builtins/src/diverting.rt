@@ -14,7 +14,6 @@ use crate::number::{first_number, number_in};
 use crate::place::Place;
 use itoa::Buffer;
 use m4_state::builtin::Builtin;
-use m4_state::bytes::Bytes;
 use m4_state::state::State;
 use std::alloc::{AllocError, Global};
 
@@ -61,8 +60,8 @@ pub(crate) fn undivert(
     } else {
         bring_back_each(alloc, list, place, state, &mut messages, &mut output)?;
     }
-    effect.warn(Bytes::from(messages));
-    effect.set_output(Bytes::from(output));
+    effect.warn(messages);
+    effect.set_output(output);
     Ok(())
 }
 

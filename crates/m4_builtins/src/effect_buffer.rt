@@ -22,8 +22,8 @@ pub struct EffectBuffer {
     is_made: bool,
     buffer: Vec<u8>,
     has_more: bool,
-    messages: Bytes,
-    output: Bytes,
+    messages: Vec<u8>,
+    output: Vec<u8>,
     wrap: Option<Bytes>,
     skip: bool,
     exit: Option<u8>,
@@ -73,8 +73,8 @@ impl EffectBuffer {
             is_made: false,
             buffer: Vec::new(alloc),
             has_more: false,
-            messages: Bytes::empty(),
-            output: Bytes::empty(),
+            messages: Vec::new(alloc),
+            output: Vec::new(alloc),
             wrap: None,
             skip: false,
             exit: None,
@@ -104,8 +104,8 @@ impl EffectBuffer {
         };
         Effect {
             push,
-            messages,
-            output,
+            messages: Bytes::from(messages),
+            output: Bytes::from(output),
             wrap,
             skip,
             exit,
@@ -128,13 +128,14 @@ impl EffectBuffer {
     fn clear_more(&mut self)
         ensures { self.new ≡ record nothing { push = self.old.push } }
     {
+        let alloc = self.alloc();
         self.has_more = false;
         self.wrap = None;
         self.skip = false;
         self.exit = None;
         // Hardly any call makes them, so their memory is not kept.
-        self.messages = Bytes::empty();
-        self.output = Bytes::empty();
+        self.messages = Vec::new(alloc);
+        self.output = Vec::new(alloc);
     }
 
     /// Returns whether there is more to do than to insert a value.
@@ -187,14 +188,14 @@ impl EffectBuffer {
     pub fn messages(&self) -> &[u8]
         ensures { result.now ≡ self.now.messages }
     {
-        self.messages.as_slice()
+        &self.messages
     }
 
     /// Returns the output to be written at once.
     pub fn output(&self) -> &[u8]
         ensures { result.now ≡ self.now.output }
     {
-        self.output.as_slice()
+        &self.output
     }
 
     /// Removes the text that is read after all input, and returns it.
@@ -315,31 +316,30 @@ impl EffectBuffer {
     }
 
     /// Sets the messages.
-    pub(crate) fn warn(&mut self, messages: Bytes)
-        ensures { self.new ≡ record self.old { messages = messages } }
+    pub(crate) fn warn(&mut self, messages: Vec<u8>)
+        ensures { self.new ≡ record self.old { messages = messages.items } }
     {
         // Builtins that read numbers always set them, and mostly there are none.
-        self.has_more |= !messages.as_slice().is_empty();
+        self.has_more |= !messages.is_empty();
         self.messages = messages;
     }
 
     /// Inserts a message before the others.
-    pub(crate) fn warn_first(&mut self, message: Bytes) -> Result<(), AllocError>
-        ensures { OnOk result (self.new ≡ record self.old { messages = message ++ self.old.messages }) }
+    pub(crate) fn warn_first(&mut self, message: Vec<u8>) -> Result<(), AllocError>
+        ensures { OnOk result (self.new ≡ record self.old { messages = message.items ++ self.old.messages }) }
     {
-        let mut messages = Vec::new(self.alloc());
-        messages.extend_from_slice(message.as_slice())?;
-        messages.extend_from_slice(self.messages.as_slice())?;
+        let mut messages = message;
+        messages.extend_from_slice(&self.messages)?;
         self.has_more = true;
-        self.messages = Bytes::from(messages);
+        self.messages = messages;
         Ok(())
     }
 
     /// Sets the output that is written at once.
-    pub(crate) fn set_output(&mut self, output: Bytes)
-        ensures { self.new ≡ record self.old { output = output } }
+    pub(crate) fn set_output(&mut self, output: Vec<u8>)
+        ensures { self.new ≡ record self.old { output = output.items } }
     {
-        self.has_more |= !output.as_slice().is_empty();
+        self.has_more |= !output.is_empty();
         self.output = output;
     }
 

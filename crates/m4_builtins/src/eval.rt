@@ -17,7 +17,6 @@ use m4_eval::digits::in_radix;
 use m4_eval::evaluate::{Evaluated, evaluate};
 use m4_eval::radix::Radix;
 use m4_state::builtin::Builtin;
-use m4_state::bytes::Bytes;
 use std::alloc::{AllocError, Global};
 
 /// Expands to the value of the first argument, in the radix of the second one, with at least as many
@@ -33,7 +32,7 @@ pub(crate) fn eval(effect: &mut EffectBuffer, list: &[Arg], place: &Place) -> Re
     if let Some(digits) = digits_in(alloc, buffer, list, place, &mut messages)? {
         effect.give(digits);
     }
-    effect.warn(Bytes::from(messages));
+    effect.warn(messages);
     Ok(())
 }
 

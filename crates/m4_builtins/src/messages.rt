@@ -30,7 +30,7 @@ pub fn dropped_message(alloc: Global, place: &Place) -> Result<Bytes, BuiltinFau
     // exact steps: the complete line
     ensures { IfOk result (λ b. b ≡ dropped place.now) }
 {
-    Ok(warning_message(alloc, place, Warning::Dropped)?)
+    Ok(Bytes::from(warning_line(alloc, place, Warning::Dropped)?))
 }
 
 /// Sets the messages of an effect to a warning.
@@ -41,7 +41,7 @@ pub(crate) fn warn(
 ) -> Result<(), AllocError>
     ensures { OnOk result (effect.new ≡ record effect.old { messages = warned_of place.now about.entry }) }
 {
-    let line = warning_message(effect.alloc(), place, about)?;
+    let line = warning_line(effect.alloc(), place, about)?;
     effect.warn(line);
     Ok(())
 }
@@ -55,8 +55,8 @@ pub(crate) fn append_warning(
 ) -> Result<(), AllocError>
     ensures { OnOk result (messages.new.items ≡ messages.old.items ++ warned_of place.now about.entry) }
 {
-    let line = warning_message(alloc, place, about)?;
-    messages.extend_from_slice(line.as_slice())
+    let line = warning_line(alloc, place, about)?;
+    messages.extend_from_slice(&line)
 }
 
 /// What a warning is about: a builtin of the table, or a name that the input or a frozen file has.
@@ -91,13 +91,13 @@ pub(crate) enum Warning<'a> {
 }
 
 /// Returns the line of a warning.
-pub(crate) fn warning_message(
+pub(crate) fn warning_line(
     alloc: Global,
     place: &Place,
     about: Warning<'_>,
-) -> Result<Bytes, AllocError>
+) -> Result<Vec<u8>, AllocError>
     // exact steps: the complete line
-    ensures { IfOk result (λ b. b ≡ warned_of place.now about.entry) }
+    ensures { IfOk result (λ line. line.items ≡ warned_of place.now about.entry) }
 {
     let (before, name, after) = parts_of(about);
     let mut line = head(alloc, place, b": Warning: ")?;
@@ -105,7 +105,7 @@ pub(crate) fn warning_message(
     line.extend_from_slice(name)?;
     line.extend_from_slice(after)?;
     line.push(b'\n')?;
-    Ok(Bytes::from(line))
+    Ok(line)
 }
 
 /// Returns the text of a warning: a name, with what comes before and after it.

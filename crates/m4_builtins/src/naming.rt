@@ -138,7 +138,7 @@ pub(crate) fn defn(
             let mut warnings = Vec::new(alloc);
             push_texts(alloc, list, place, state, &mut texts, &mut warnings)?;
             effect.give(texts);
-            effect.warn(Bytes::from(warnings));
+            effect.warn(warnings);
             Ok(())
         }
     }

@@ -13,7 +13,6 @@ use crate::place::Place;
 use crate::substitute::{digits_len, number_of};
 use m4_eval::blank::spaces_len;
 use m4_state::builtin::Builtin;
-use m4_state::bytes::Bytes;
 use std::alloc::{AllocError, Global};
 
 /// The result of reading a numeric argument.
@@ -61,7 +60,7 @@ pub(crate) fn first_number(
     let alloc = effect.alloc();
     let mut messages = Vec::new(alloc);
     let number = number_in(alloc, text, place, builtin, &mut messages)?;
-    effect.warn(Bytes::from(messages));
+    effect.warn(messages);
     Ok(number)
 }
 

@@ -38,7 +38,7 @@ pub(crate) fn dumpdef(
     push_warnings(alloc, names.as_slice(), place, state, &mut messages)?;
     names.sort_unstable_by(|a, b| a.as_slice().cmp(b.as_slice()));
     push_lines(names.as_slice(), state, &mut messages)?;
-    effect.warn(Bytes::from(messages));
+    effect.warn(messages);
     Ok(())
 }
 
@@ -157,7 +157,7 @@ pub(crate) fn errprint(effect: &mut EffectBuffer, list: &[Arg]) -> Result<(), Al
     let alloc = effect.alloc();
     let mut text = Vec::new(alloc);
     push_joined(&mut text, list, b' ')?;
-    effect.warn(Bytes::from(text));
+    effect.warn(text);
     Ok(())
 }
 

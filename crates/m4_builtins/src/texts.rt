@@ -12,7 +12,6 @@ use crate::number::number_in;
 use crate::place::Place;
 use itoa::Buffer;
 use m4_state::builtin::Builtin;
-use m4_state::bytes::Bytes;
 use memchr::memmem;
 use std::alloc::AllocError;
 
@@ -54,20 +53,20 @@ pub(crate) fn substr(
     let mut messages = Vec::new(alloc);
     let number = number_in(alloc, text_of(from), place, Builtin::Substr, &mut messages)?;
     let Some(from) = number else {
-        effect.warn(Bytes::from(messages));
+        effect.warn(messages);
         return Ok(());
     };
     let mut part = from_place(text_of(text), from);
     if let [count, ..] = counts {
         let number = number_in(alloc, text_of(count), place, Builtin::Substr, &mut messages)?;
         let Some(count) = number else {
-            effect.warn(Bytes::from(messages));
+            effect.warn(messages);
             return Ok(());
         };
         part = at_most(part, count);
     }
     effect.give_copy(part)?;
-    effect.warn(Bytes::from(messages));
+    effect.warn(messages);
     Ok(())
 }
 

@@ -21,6 +21,6 @@ returns c =
     (answers_always _ _ _ (λ f a r g h. search rules))) in
     let first : c.push_warnings.new.messages.items ≡ warnings_on names p s = search rules in
     let second : c.push_lines.new.messages.items ≡ c.push_warnings.new.messages.items ++ lines_of c.sort_unstable_by.new.self.items s = search rules in
-    let messages : c.from.result ≡ dumped (names_shown c.args.list.now s) p s =
-    c.from.ensures ∙ second ∙ (λ i. first i ++ lines_of (ordered i) s) ∙ ap (λ (ns : List (List ℕ)). dumped ns p s) c.in_ok-names.ensures in
-    c.warn.ensures ∙ ap (λ (e : Effect). record e { messages = c.from.result }) c.requires ∙ ap only_warning messages
+    let messages : c.push_lines.new.messages.items ≡ dumped (names_shown c.args.list.now s) p s =
+    second ∙ (λ i. first i ++ lines_of (ordered i) s) ∙ ap (λ (ns : List (List ℕ)). dumped ns p s) c.in_ok-names.ensures in
+    c.warn.ensures ∙ ap (λ (e : Effect). record e { messages = c.push_lines.new.messages.items }) c.requires ∙ ap only_warning messages

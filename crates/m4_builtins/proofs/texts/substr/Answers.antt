@@ -23,8 +23,8 @@ returns-in_default-number c =
     let warned : c.number_in.new.messages.items ≡ warning_on p b =
     warned_of p _ _ [] _ b c.new-messages.ensures.items c.in_ok-number.ensures.warns c.text_of.ensures in
     sym (substr-no_place p list (take (length list - 2) (drop 2 list)) a b c.in-len2-up.len_at_least c.text-item.is c.from-item.is refl number
-    ∙ ap only_warning (sym (c.from.ensures ∙ warned))
-    ∙ ap (λ (e : Effect). record e { messages = c.from.result }) (sym c.requires)
+    ∙ ap only_warning (sym warned)
+    ∙ ap (λ (e : Effect). record e { messages = c.number_in.new.messages.items }) (sym c.requires)
     ∙ sym c.warn.ensures)
 
 -- the count is no number
@@ -43,8 +43,8 @@ returns-in_default-number-2 c =
     warned_of p _ _ (warning_on p b) _ d warned c.in_ok-number-2.ensures.warns c.text_of-in-len1-up.ensures in
     sym (substr-no_count p list (take (length list - 2) (drop 2 list)) a b c.in-len2-up.len_at_least c.text-item.is
     c.from-item.is refl c.in-Some.from number d c.in-len1-up.len_at_least c.count-item.is number_2
-    ∙ ap only_warning (sym (c.from-in_default-number-2.ensures ∙ warned_2))
-    ∙ ap (λ (e : Effect). record e { messages = c.from-in_default-number-2.result }) (sym c.requires)
+    ∙ ap only_warning (sym warned_2)
+    ∙ ap (λ (e : Effect). record e { messages = c.number_in-in-len1-up.new.messages.items }) (sym c.requires)
     ∙ sym c.warn-in_default-number-2.ensures)
 
 -- there is no count, or it is a number
@@ -63,11 +63,11 @@ returns c =
     let counts = take (length list - 2) (drop 2 list) in
     elim c.if-counts-lt1.branch [
       | in_default-counts w ↦
-          sym (pushed_with _ c.give_copy.new.self c.from-2.result (warning_on p b) _ (from_place from (text_of_arg a))
+          sym (pushed_with _ c.give_copy.new.self c.if-counts-lt1.messages.items (warning_on p b) _ (from_place from (text_of_arg a))
           (substr-rest p list counts a b c.in-len2-up.len_at_least c.text-item.is c.from-item.is refl from number w.in_default-counts.len_below)
           (c.in_ok-give_copy.ensures ∙ ap (λ (f : Effect). record f { push = Some (pushes.Text c.if-counts-lt1.part.now) }) c.requires)
           (ap (λ v. v.now) w.part-is ∙ cut ∙ ap (from_place from) c.text_of-2.ensures)
-          (c.from-2.ensures ∙ ap (λ v. v.items) w.messages-is ∙ warned)
+          (ap (λ v. v.items) w.messages-is ∙ warned)
           ∙ sym c.warn-2.ensures)
       | in-len1-up+in_ok-number-2+in-Some-number w ↦
           let d = w.count-item.result in
@@ -77,11 +77,11 @@ returns c =
           let number_2 : Some count ≡ number_of d = read_of _ _ _ d w.in-Some-number.is w.in_ok-number-2.ensures.number w.text_of-in-len1-up.ensures in
           let warned_2 : w.number_in-in-len1-up.new.messages.items ≡ warning_on p b ++ warning_on p d =
           warned_of p _ _ (warning_on p b) _ d warned w.in_ok-number-2.ensures.warns w.text_of-in-len1-up.ensures in
-          sym (pushed_with _ c.give_copy.new.self c.from-2.result (warning_on p b ++ warning_on p d) _ (at_most count (from_place from (text_of_arg a)))
+          sym (pushed_with _ c.give_copy.new.self c.if-counts-lt1.messages.items (warning_on p b ++ warning_on p d) _ (at_most count (from_place from (text_of_arg a)))
           (substr-counted p list counts a b c.in-len2-up.len_at_least c.text-item.is c.from-item.is refl from number d
           count w.in-len1-up.len_at_least w.count-item.is number_2)
           (c.in_ok-give_copy.ensures ∙ ap (λ (f : Effect). record f { push = Some (pushes.Text c.if-counts-lt1.part.now) }) c.requires)
           (ap (λ v. v.now) w.part-is ∙ cut_2 ∙ ap (at_most count) (cut ∙ ap (from_place from) c.text_of-2.ensures))
-          (c.from-2.ensures ∙ ap (λ v. v.items) w.messages-is ∙ warned_2)
+          (ap (λ v. v.items) w.messages-is ∙ warned_2)
           ∙ sym c.warn-2.ensures)
     ]
