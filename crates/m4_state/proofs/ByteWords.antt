@@ -5,7 +5,7 @@ use Rattle.std.specs.Cmp.{ranks}
 use Rattle.std.specs.Cmp.Lexicographic.{slice_cmp}
 use Rattle.std.proofs.Math.Nat.{min-le_left, min-le_right, le-min}
 use Rattle.std.proofs.Math.Seq.{take-add}
-use Rattle.std.proofs.lemmas.List.{length-drop, get_or-drop, take_all, take-take}
+use Rattle.std.proofs.lemmas.List.{length-drop, get_or-drop, take-take}
 use Rattle.m4_state.specs.ByteWords.{word, AreBytes, filled, IsRank, BeginsAlike}
 
 -- ---- how two numbers compare

@@ -4,7 +4,7 @@ use Rattle.std.specs.List.{All, AllWithin, HoldsAt}
 use Rattle.std.specs.List.Sorted.{IsPermutation, IsSortedBy, IsSortedByKey, IsSortedWithin}
 use Rattle.std.specs.Ordering.{nat_cmp}
 use Rattle.std.proofs.lemmas.Bool.{cases_lt}
-use Rattle.std.proofs.lemmas.List.{length-map, length-drop, length-take-le, get_or-map, get_or-take, get_or-drop, get_or_append_left, get_or-append_right, map-append, drop-drop, drop_all}
+use Rattle.std.proofs.lemmas.List.{length-map, length-drop, length-take-le, get_or-map, get_or-take, get_or-drop, get_or_append_left, get_or-append_right, map-append, drop-drop}
 use Rattle.std.proofs.lemmas.List.Elements.{All-from_get_or, All-map}
 use Rattle.std.proofs.lemmas.List.Sorted.{IsPermutation-refl, IsPermutation-trans, IsPermutation-append_left, IsPermutation-append_right, All-permutation, length_permutation, IsNonDecreasingBy-from_sort}
 use Rattle.std.proofs.lemmas.Slice.{drop-put_mid}

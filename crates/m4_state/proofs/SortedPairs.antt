@@ -13,7 +13,7 @@ use Rattle.std.proofs.lemmas.List.FromFn.{fill_by_all, get_or-range_with_len, le
 use Rattle.std.proofs.lemmas.List.Sorted.{IsPermutation-map, All-permutation}
 use Rattle.std.proofs.lemmas.Map.Keys.{sorted_head, sorted_tail, sorted_from_all_adjacent, apart_from_distinct, IsDistinct-IsPermutation}
 use Rattle.indexmap.proofs.MapLemmas.{lookup_permutation}
-use Rattle.m4_state.specs.Entries.{Entry, pair_of, pair_at, name_at, in_order}
+use Rattle.m4_state.specs.Entries.{Entry, pair_of, pair_at, in_order}
 use Rattle.m4_state.specs.Table.{Pair, Pairs, byte_order}
 use Rattle.m4_state.proofs.Tables.{byte_order-IsAntisymmetric}
 use Rattle.m4_state.proofs.RankOrder.{before, All-from_places}

@@ -1,6 +1,6 @@
 -- Bytes as one number.
 -- Not believed: the byte order of names is `byte_order`, whatever the numbers are.
-use Rattle.std.specs.Prelude.{◌≡◌, ℕ, zero, suc, ◌+◌, ◌*◌, ◌<◌, ◌≤◌, List, [], ◌∷◌, length, take, drop, slice_index}
+use Rattle.std.specs.Prelude.{◌≡◌, ℕ, zero, suc, ◌+◌, ◌*◌, ◌<◌, ◌≤◌, List, [], ◌∷◌, length, take, slice_index}
 
 -- the number that the bytes spell after n, the first one the greatest
 abbrev pub word : ℕ → List ℕ → ℕ

@@ -1,4 +1,4 @@
-use Rattle.std.proofs.Common.{◌≡◌, ◌∙◌, ◌<◌, ℕ, List, [], ◌∷◌, ◌++◌, Some, IsSome, Bool, true, false, length, slice_get, slice_index_or, refl, sym, ap, subst, rules, arith}
+use Rattle.std.proofs.Common.{◌≡◌, ◌∙◌, ◌<◌, ℕ, List, [], ◌∷◌, ◌++◌, Some, IsSome, true, false, length, slice_get, slice_index_or, refl, sym, ap, subst, arith}
 use Rattle.std.proofs.lemmas.Slice.{pushed}
 use Rattle.m4_state.specs.Entries.{Entry}
 use Rattle.m4_state.specs.Table.{Pair}

@@ -1,12 +1,11 @@
-use Rattle.std.proofs.Common.{◌≡◌, ◌∙◌, ◌<◌, ℕ, List, map, take, drop, ◌++◌, length, sym, ap, subst, rules, arith}
+use Rattle.std.proofs.Common.{◌≡◌, ◌∙◌, ◌<◌, ℕ, map, take, drop, ◌++◌, length, sym, ap, subst, rules, arith}
 use Rattle.std.specs.List.{All, range_with_len}
-use Rattle.std.specs.List.Sorted.{IsPermutation, IsSortedBy}
+use Rattle.std.specs.List.Sorted.{IsPermutation}
 use Rattle.std.proofs.lemmas.List.{take_at, length-map}
 use Rattle.std.proofs.lemmas.List.Sorted.{length_permutation}
-use Rattle.m4_state.specs.Entries.{pair_at, in_order}
+use Rattle.m4_state.specs.Entries.{pair_at}
 use Rattle.m4_state.specs.declared.ranked.Ranked.{Ranked}
 use Rattle.m4_state.proofs.SortedPairs.{within_places, sorted_by_places}
-use Rattle.m4_state.proofs.RankOrder.{before}
 use Rattle.m4_state.proofs.entries.sorted_in.Goals as goal
 
 pub returns-clause-within : goal.returns-clause-within

@@ -1,4 +1,4 @@
-use Rattle.std.proofs.Common.{◌≡◌, ◌∙◌, ◌+◌, ◌<◌, ℕ, List, map, drop, length, slice_index_or, sym, ap, subst, arith}
+use Rattle.std.proofs.Common.{◌∙◌, ℕ, List, map, drop, slice_index_or, sym, ap, subst, arith}
 use Rattle.std.proofs.lemmas.List.{length-set, map-set, set-get_or}
 use Rattle.std.proofs.lemmas.List.Elements.{AllWithin-more_set}
 use Rattle.m4_state.specs.ByteWords.{IsRank}

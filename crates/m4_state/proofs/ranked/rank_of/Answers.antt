@@ -1,5 +1,4 @@
-use Rattle.std.proofs.Common.{◌≡◌, ◌∙◌, ◌≤◌, List, ℕ, ap, sym, subst, drop, take, length, rules, arith}
-use Rattle.std.proofs.lemmas.List.{take_all, drop_min}
+use Rattle.std.proofs.Common.{◌≡◌, List, ℕ, subst, drop, rules, arith}
 use Rattle.m4_state.specs.ByteWords.{IsRank}
 use Rattle.m4_state.proofs.ByteWords.{rank_of_long}
 use Rattle.m4_state.proofs.ranked.rank_of.Goals as goal
