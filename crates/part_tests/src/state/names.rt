@@ -353,7 +353,7 @@ fn report_falling(state: &State, report: &mut Report) {
             let mut last = None;
             for named in &all {
                 if let Some(last) = last
-                    && named.name().cmp(last).is_le()
+                    && named.name().cmp(&last).is_le()
                 {
                     report.pair(b", ", named.name());
                 }
@@ -369,9 +369,9 @@ fn report_alike(alloc: Global) -> Result<Vec<u8>, AllocError> {
     let mut report = Report::new(alloc);
     match start(alloc, false) {
         Ok(mut state) => {
-            for len in [40, 15, 17, 32, 16] {
+            for len in [40usize, 15, 17, 32, 16] {
                 for end in ENDS {
-                    let name = joined(alloc, &[&[b'f'; 40][..len], end])?;
+                    let name = joined(alloc, &[&[b'f'; 40][..len.min(40)], end])?;
                     if push(alloc, &mut state, &name, Given::Text("")).is_err() {
                         report.refuse();
                     }
