@@ -5,8 +5,8 @@ use Rattle.std.specs.Cmp.{ranks}
 use Rattle.std.specs.Cmp.Lexicographic.{slice_cmp}
 use Rattle.std.proofs.Math.Nat.{min-le_left, min-le_right, le-min}
 use Rattle.std.proofs.Math.Seq.{take-add}
-use Rattle.std.proofs.lemmas.List.{length-drop, get_or-drop, take_all, take-take}
-use Rattle.m4_state.specs.ByteWords.{word, AreBytes, filled, IsRank}
+use Rattle.std.proofs.lemmas.List.{length-drop, get_or-drop, take-take}
+use Rattle.m4_state.specs.ByteWords.{word, AreBytes, filled, IsRank, BeginsAlike}
 
 -- ---- how two numbers compare
 by_rank : (x y : ℕ) (r : Ordering) → MatchOrdering r (x < y) (x ≡ y) (y < x) → (x < y → r ≡ Less) × (x ≡ y → r ≡ Equal) × (y < x → r ≡ Greater)
@@ -20,7 +20,7 @@ below {x} {y} = (by_rank x y _ (ranks x y)).0
 tied : {x y : ℕ} → x ≡ y → nat_cmp x y ≡ Equal
 tied {x} {y} = (by_rank x y _ (ranks x y)).1
 
-above : {x y : ℕ} → y < x → nat_cmp x y ≡ Greater
+pub above : {x y : ℕ} → y < x → nat_cmp x y ≡ Greater
 above {x} {y} = (by_rank x y _ (ranks x y)).2
 
 -- ---- bytes as numbers
@@ -135,31 +135,33 @@ filled_front zero xs le = refl
 filled_front (suc n) [] le = absurd (omega arith)
 filled_front (suc n) (x ∷ xs) le = ap (λ (l : List ℕ). x ∷ l) (filled_front n xs (omega arith))
 
--- sixteen bytes are two words
-two_words : (xs : List ℕ) → length xs ≡ 16 → take 8 xs ++ take 8 (drop 8 xs) ≡ xs
-two_words xs e = sym (take-add 8 8 xs) ∙ take_all 16 xs (omega arith)
+-- the first of bytes are bytes
+few_bytes : (n : ℕ) (xs : List ℕ) → AreBytes xs → AreBytes (take n xs)
+few_bytes zero xs h k = omega arith
+few_bytes (suc n) [] h k = h k
+few_bytes (suc n) (x ∷ xs) h zero = h 0
+few_bytes (suc n) (x ∷ xs) h (suc k) = few_bytes n xs (λ i. h (suc i)) k
 
-module _ (xs ys : List ℕ) (a b c d : ℕ) (rx : IsRank xs a b) (ry : IsRank ys c d) where
-  -- first numbers that differ decide
-  pub first_decides : (a ≡ c → ⊥) → nat_cmp a c ≡ slice_cmp nat_cmp xs ys
-  first_decides f =
-      words_decide (filled 16 xs) (filled 16 ys) rx.bytes ry.bytes 0 a c (omega (arith, length-filled 16 xs)) (omega (arith, length-filled 16 ys)) refl rx.high ry.high f
-      ∙ filled_decide 16 xs ys (λ e. f (rx.high ∙ ap (λ l. word 0 (take 8 l)) e ∙ sym ry.high))
+-- a long name is ranked by its first eight bytes
+pub rank_of_long : (xs : List ℕ) (a : ℕ) → 8 ≤ length xs → AreBytes xs → a ≡ word 0 (take 8 xs) → IsRank xs a
+rank_of_long xs a le bytes e =
+    let full : filled 8 xs ≡ take 8 xs = filled_front 8 xs le in
+    record {
+      bytes = subst AreBytes (sym full) (few_bytes 8 xs bytes);
+      number = e ∙ sym (ap (word 0) (ap (take 8) full ∙ take-take 8 8 xs (omega arith)));
+    }
 
-  -- if they are equal, second ones that differ do
-  pub second_decides : a ≡ c → (b ≡ d → ⊥) → nat_cmp b d ≡ slice_cmp nat_cmp xs ys
-  second_decides e f =
-      let same = (words_at (filled 16 xs) (filled 16 ys) rx.bytes ry.bytes 0 (omega (arith, length-filled 16 xs)) (omega (arith, length-filled 16 ys)) refl).alike (sym rx.high ∙ e ∙ ry.high) in
-      words_decide (filled 16 xs) (filled 16 ys) rx.bytes ry.bytes 8 b d (omega (arith, length-filled 16 xs)) (omega (arith, length-filled 16 ys)) same rx.low ry.low f
-      ∙ filled_decide 16 xs ys (λ s. f (rx.low ∙ ap (λ l. word 0 (take 8 (drop 8 l))) s ∙ sym ry.low))
+-- names whose first eight bytes spell different numbers compare as these do
+pub ranks_decide : (xs ys : List ℕ) (a b : ℕ) → IsRank xs a → IsRank ys b → (a ≡ b → ⊥) → nat_cmp a b ≡ slice_cmp nat_cmp xs ys
+ranks_decide xs ys a b rx ry f =
+    words_decide (filled 8 xs) (filled 8 ys) rx.bytes ry.bytes 0 a b (omega (arith, length-filled 8 xs)) (omega (arith, length-filled 8 ys)) refl rx.number ry.number f
+    ∙ filled_decide 8 xs ys (λ e. f (rx.number ∙ ap (λ l. word 0 (take 8 l)) e ∙ sym ry.number))
 
-  -- if those are equal too, the first bytes of long names are the same
-  pub ranked_alike : a ≡ c → b ≡ d → 16 ≤ length xs → 16 ≤ length ys → take 16 xs ≡ take 16 ys
-  ranked_alike e f p q =
-      let high = (words_at (filled 16 xs) (filled 16 ys) rx.bytes ry.bytes 0 (omega (arith, length-filled 16 xs)) (omega (arith, length-filled 16 ys)) refl).alike (sym rx.high ∙ e ∙ ry.high) in
-      let low = (words_at (filled 16 xs) (filled 16 ys) rx.bytes ry.bytes 8 (omega (arith, length-filled 16 xs)) (omega (arith, length-filled 16 ys)) high).alike (sym rx.low ∙ f ∙ ry.low) in
-      sym (filled_front 16 xs p) ∙ sym (two_words (filled 16 xs) (length-filled 16 xs)) ∙ (λ j. high j ++ low j)
-      ∙ two_words (filled 16 ys) (length-filled 16 ys) ∙ filled_front 16 ys q
+-- after bytes that are the same too
+pub ranks_decide_after : (n : ℕ) (first xs ys : List ℕ) (a b : ℕ) → BeginsAlike n first xs → BeginsAlike n first ys → IsRank (drop n xs) a → IsRank (drop n ys) b → (a ≡ b → ⊥)
+    → nat_cmp a b ≡ slice_cmp nat_cmp xs ys
+ranks_decide_after n first xs ys a b p q rx ry f =
+    ranks_decide (drop n xs) (drop n ys) a b rx ry f ∙ sym (past n xs ys p.within q.within (p.alike ∙ sym q.alike))
 
 -- ---- names that are compared word by word
 

@@ -1,19 +1,22 @@
 -- The pairs of entries, sorted by their names, are the pairs in byte order.
-use Rattle.std.proofs.Common.{◌≡◌, ℕ, ◌+◌, ◌<◌, Bool, true, false, cond, ◌&&◌, T, List, [], ◌∷◌, map, get_or, length, Some, Ordering, Less, Equal, Greater, nat_eq, refl, sym, ap, subst, ◌∙◌, arith}
-use Rattle.std.specs.List.{AllByRecursion, IsDistinct}
+use Rattle.std.proofs.Common.{◌≡◌, ℕ, ◌+◌, ◌<◌, Bool, true, false, cond, ◌&&◌, T, List, [], ◌∷◌, ◌++◌, map, drop, get_or, slice_get, length, Some, Ordering, Less, Equal, Greater, nat_eq, refl, sym, ap, subst, ◌∙◌, arith}
+use Rattle.std.specs.List.{All, AllByRecursion, IsDistinct, range_with_len}
 use Rattle.std.specs.List.Sorted.{IsSortedBy, IsPermutation, IsStrictlySortedBy}
 use Rattle.std.specs.Ordering.{is_lt, is_eq, ordering_reverse, eq_by_cmp}
 use Rattle.std.specs.Cmp.Lexicographic.{pointwise, texts_ties, nat_list_cmp_total, nat_list_eq_equiv}
 use Rattle.std.specs.Map.{keys_of, lookup}
 use Rattle.std.specs.FinMap.{find, is_sorted}
 use Rattle.std.specs.FinMap.Entries.{below_all, same_entries}
-use Rattle.std.proofs.lemmas.List.{get_or-map, length-map}
-use Rattle.std.proofs.lemmas.List.Sorted.{IsPermutation-map}
+use Rattle.std.proofs.lemmas.List.{get_or-map, length-map, drop_more, append_assoc}
+use Rattle.std.proofs.lemmas.Option.{get_or_from_slice_get}
+use Rattle.std.proofs.lemmas.List.FromFn.{fill_by_all, get_or-range_with_len, length-range_with_len}
+use Rattle.std.proofs.lemmas.List.Sorted.{IsPermutation-map, All-permutation}
 use Rattle.std.proofs.lemmas.Map.Keys.{sorted_head, sorted_tail, sorted_from_all_adjacent, apart_from_distinct, IsDistinct-IsPermutation}
 use Rattle.indexmap.proofs.MapLemmas.{lookup_permutation}
-use Rattle.m4_state.specs.Entries.{Entry, pair_of, in_order}
+use Rattle.m4_state.specs.Entries.{Entry, pair_of, pair_at, in_order}
 use Rattle.m4_state.specs.Table.{Pair, Pairs, byte_order}
 use Rattle.m4_state.proofs.Tables.{byte_order-IsAntisymmetric}
+use Rattle.m4_state.proofs.RankOrder.{before, All-from_places}
 use Rattle.m4_state.proofs.InOrder.{has_bytes, same_key, sorted_in_order, find-in_order}
 
 -- names that differ as keys differ as bytes
@@ -82,3 +85,44 @@ sorted_in_byte_order es given moved is apart moves up =
     (rising_pairs moved (strictly (keys_of moved) (sorted_names moved up) apart_moved)) (sorted_in_order es)
     (λ q. find_is_lookup q moved ∙ lookup_permutation nat_list_eq_equiv given moved moves apart_moved (pointwise nat_eq q) (nat_list_eq_equiv.congr q)
     ∙ ap (lookup (pointwise nat_eq q)) is ∙ lookup_pairs q es ∙ sym (find-in_order q es))
+
+-- the pairs at all places are those of the entries
+pairs_at : (es : List Entry) → map (pair_at es) (range_with_len 0 (length es)) ≡ map pair_of es
+pairs_at es = sym (fill_by_all (pair_at es) (map pair_of es) (length es) ([], []) (length-map es pair_of) (λ k l. get_or-map pair_of es k ([], []) ([], []) l))
+
+module _ {X : Type 0} (p : X → ℕ) (es : List Entry) (xs : List X) (moves : IsPermutation (range_with_len 0 (length es)) (map p xs)) where
+  -- each place is within the entries
+  pub within_places : All (λ x. p x < length es) xs
+  within_places =
+      All-from_places p (λ i. i < length es) xs (All-permutation (λ i. i < length es) (range_with_len 0 (length es)) (map p xs) moves (λ k d l.
+      let within : 0 + k < length es = omega (arith, l, length-range_with_len 0 (length es)) in
+      subst (λ (i : ℕ). i < length es) (sym (get_or-range_with_len 0 (length es) k d (omega (arith, within)))) within))
+
+  -- the pairs at places that are sorted by their names
+  pub sorted_by_places : IsDistinct same_key (keys_of es) → IsSortedBy (λ x y. before es (p x) (p y)) xs → map (λ x. pair_at es (p x)) xs ≡ in_order es
+  sorted_by_places apart up =
+      sorted_in_byte_order es (map (pair_at es) (range_with_len 0 (length es))) (map (λ x. pair_at es (p x)) xs) (pairs_at es)
+      (subst (λ (ps : Pairs). IsDistinct (pointwise nat_eq) (keys_of ps)) (sym (pairs_at es)) (distinct_names es apart))
+      (subst (IsPermutation (map (pair_at es) (range_with_len 0 (length es)))) (composed xs) (IsPermutation-map (pair_at es) (range_with_len 0 (length es)) (map p xs) moves))
+      (sorted xs up)
+    where
+      composed : (ys : List X) → map (pair_at es) (map p ys) ≡ map (λ x. pair_at es (p x)) ys
+      composed [] = refl
+      composed (y ∷ ys) = ap (λ (ps : Pairs). pair_at es (p y) ∷ ps) (composed ys)
+
+      sorted : (ys : List X) → IsSortedBy (λ x y. before es (p x) (p y)) ys → IsSortedBy (λ x y. is_lt (byte_order x.0 y.0)) (map (λ x. pair_at es (p x)) ys)
+      sorted [] rises k d low lt = absurd (omega arith)
+      sorted (y ∷ ys) rises k d low lt =
+          let pair : X → Pair = λ x. pair_at es (p x) in
+          let within : k + 1 < length (y ∷ ys) = omega (arith, lt, length-map (y ∷ ys) pair) in
+          (λ j. is_lt (byte_order (get_or-map pair (y ∷ ys) (k + 1) y d within j).0 (get_or-map pair (y ∷ ys) k y d (omega arith) j).0)) ∙ rises k y low within
+
+-- one more pair, of the entry at the place of the next element
+pub pair_more : {X : Type 0} (p : X → ℕ) (es : List Entry) (xs : List X) (i : ℕ) (d : X) (done now : Pairs) (e : Entry) → i < length xs → slice_get es (p (get_or xs i d)) ≡ Some e
+    → now ≡ done ++ (e.0, e.1) ∷ [] → done ++ map (λ x. pair_at es (p x)) (drop i xs) ≡ map (λ x. pair_at es (p x)) xs
+    → now ++ map (λ x. pair_at es (p x)) (drop (i + 1) xs) ≡ map (λ x. pair_at es (p x)) xs
+pair_more p es xs i d done now e l here is all =
+    let pairs = map (λ x. pair_at es (p x)) in
+    let first : (e.0, e.1) ≡ pair_at es (p (get_or xs i d)) = ap pair_of (sym (get_or_from_slice_get es (p (get_or xs i d)) e ([], []) here)) in
+    ap (λ (ps : Pairs). ps ++ pairs (drop (i + 1) xs)) is ∙ append_assoc done ((e.0, e.1) ∷ []) (pairs (drop (i + 1) xs))
+    ∙ ap (λ (q : Pair). done ++ q ∷ pairs (drop (i + 1) xs)) first ∙ ap (λ l. done ++ pairs l) (sym (drop_more xs i d l)) ∙ all

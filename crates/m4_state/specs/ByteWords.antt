@@ -1,6 +1,6 @@
 -- Bytes as one number.
 -- Not believed: the byte order of names is `byte_order`, whatever the numbers are.
-use Rattle.std.specs.Prelude.{◌≡◌, ℕ, zero, suc, ◌+◌, ◌*◌, ◌<◌, List, [], ◌∷◌, take, drop, slice_index}
+use Rattle.std.specs.Prelude.{◌≡◌, ℕ, zero, suc, ◌+◌, ◌*◌, ◌<◌, ◌≤◌, List, [], ◌∷◌, length, take, slice_index}
 
 -- the number that the bytes spell after n, the first one the greatest
 abbrev pub word : ℕ → List ℕ → ℕ
@@ -17,8 +17,12 @@ filled zero xs = []
 filled (suc n) [] = 0 ∷ filled n []
 filled (suc n) (x ∷ xs) = x ∷ filled n xs
 
--- the first sixteen bytes of a name spell these numbers
-pub record IsRank (name : List ℕ) (first second : ℕ) : Type 0 where
-  pub bytes : AreBytes (filled 16 name)
-  pub high : first ≡ word 0 (take 8 (filled 16 name))
-  pub low : second ≡ word 0 (take 8 (drop 8 (filled 16 name)))
+-- the first eight bytes of a name spell this number
+pub record IsRank (name : List ℕ) (rank : ℕ) : Type 0 where
+  pub bytes : AreBytes (filled 8 name)
+  pub number : rank ≡ word 0 (take 8 (filled 8 name))
+
+-- the first n bytes of both are the same
+pub record BeginsAlike (n : ℕ) (first name : List ℕ) : Type 0 where
+  pub within : n ≤ length name
+  pub alike : take n name ≡ take n first

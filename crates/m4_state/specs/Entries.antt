@@ -1,6 +1,6 @@
 -- The entries of the code's table, seen as pairs in byte order.
 -- Not believed: it only views entries in any order as one list of pairs.
-use Rattle.std.specs.Prelude.{◌≡◌, ◌<◌, ℕ, List, [], ◌∷◌, Option, IfSome, length, position, nat_eq}
+use Rattle.std.specs.Prelude.{◌≡◌, ◌<◌, ℕ, List, [], ◌∷◌, Option, IfSome, length, position, nat_eq, slice_index_or}
 use Rattle.std.specs.Cmp.Lexicographic.{pointwise}
 use Rattle.std.specs.FinMap.{put}
 use Rattle.std.specs.Map.{keys_of}
@@ -15,6 +15,14 @@ Entry = List ℕ × List Def
 -- the pair that an entry means
 abbrev pub pair_of : Entry → Pair
 pair_of e = (e.0, e.1)
+
+-- that of the entry at a place
+abbrev pub pair_at : List Entry → ℕ → Pair
+pair_at es i = pair_of (slice_index_or es i ([], []))
+
+-- and its name
+abbrev pub name_at : List Entry → ℕ → List ℕ
+name_at es i = (pair_at es i).0
 
 -- each entry inserted in its place
 abbrev pub in_order : List Entry → Pairs

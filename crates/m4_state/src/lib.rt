@@ -19,6 +19,7 @@ pub mod lanes;
 mod marks;
 pub mod memory;
 pub mod named;
+mod ranked;
 mod stack;
 pub mod standard;
 pub mod state;

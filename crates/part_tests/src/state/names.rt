@@ -2,7 +2,7 @@
 //! Manual: "Defining a macro", "Deleting a macro", "Temporarily redefining macros".
 
 use crate::given::{Given, describe_definition, made, start};
-use crate::report::Report;
+use crate::report::{Report, joined};
 use crate::shows::shows;
 use m4_state::bytes::Bytes;
 use m4_state::definition::Def;
@@ -330,5 +330,66 @@ fn names_are_in_byte_order(rt: HostRuntime) {
           b, text 1, text 2; 1\n\
           \xff, text 1, text 2; 1\n",
         report_of(rt.alloc(), false, &ORDERED),
+    );
+}
+
+// What comes after the bytes that names begin with, in no order.
+static ENDS: [&[u8]; 8] = [
+    b"x",
+    b"\xff",
+    b"",
+    b"ab",
+    b"a",
+    b"\x00",
+    b"abcdefghi",
+    b"abcdefgh",
+];
+
+// Adds how many names there are, and each that does not go after the one before it.
+fn report_falling(state: &State, report: &mut Report) {
+    match state.definitions() {
+        Ok(all) => {
+            report.number(all.len());
+            let mut last = None;
+            for named in &all {
+                if let Some(last) = last
+                    && named.name().cmp(&last).is_le()
+                {
+                    report.pair(b", ", named.name());
+                }
+                last = Some(named.name());
+            }
+        }
+        Err(StateFault::OutOfMemory) => report.refuse(),
+    }
+}
+
+// Reports names of which each begins with 15 to 40 times the same byte.
+fn report_alike(alloc: Global) -> Result<Vec<u8>, AllocError> {
+    let mut report = Report::new(alloc);
+    match start(alloc, false) {
+        Ok(mut state) => {
+            for len in [40usize, 15, 17, 32, 16] {
+                for end in ENDS {
+                    let name = joined(alloc, &[&[b'f'; 40][..len.min(40)], end])?;
+                    if push(alloc, &mut state, &name, Given::Text("")).is_err() {
+                        report.refuse();
+                    }
+                }
+            }
+            report_falling(&state, &mut report);
+        }
+        Err(StateFault::OutOfMemory) => report.refuse(),
+    }
+    report.text()
+}
+
+#[test]
+fn names_that_begin_alike_are_in_byte_order(rt: HostRuntime) {
+    shows(
+        &rt,
+        "names that begin with 15 to 40 bytes in common rise",
+        b"40",
+        report_alike(rt.alloc()),
     );
 }

@@ -1,14 +1,34 @@
-use Rattle.std.proofs.Common.{rules}
-use Rattle.std.specs.Ordering.{is_lt}
-use Rattle.std.specs.Cmp.Lexicographic.{nat_list_cmp_total}
-use Rattle.std.proofs.lemmas.List.Sorted.{ranks_by, answers_always}
-use Rattle.m4_state.specs.Table.{byte_order}
-use Rattle.m4_state.proofs.SortedPairs.{sorted_in_byte_order}
+use Rattle.std.proofs.Common.{◌≡◌, ◌∙◌, ◌<◌, ℕ, List, [], ◌∷◌, ◌++◌, Some, IsSome, true, false, length, slice_get, slice_index_or, refl, sym, ap, subst, arith}
+use Rattle.std.proofs.lemmas.Slice.{pushed}
+use Rattle.m4_state.specs.Entries.{Entry}
+use Rattle.m4_state.specs.Table.{Pair}
+use Rattle.m4_state.specs.declared.ranked.Ranked.{Ranked}
+use Rattle.m4_state.proofs.SortedPairs.{pair_more}
+use Rattle.m4_state.proofs.entries.definitions_in.Goals.{in-Some+in_ok-push, in_default}
 use Rattle.m4_state.proofs.entries.definitions_in.Goals as goal
 
--- the pairs of the entries were sorted by their names
-pub returns : goal.returns
-returns c =
-    sorted_in_byte_order c.args.entries.now.entries c.in_ok-named.named.items c.sort_unstable_by.new.self.items
-    c.in_ok-named.ensures.pairs c.in_ok-named.ensures.distinct c.sort_unstable_by.ensures.permutation
-    (c.sort_unstable_by.ensures.sorted (λ x y. is_lt (byte_order x.0 y.0)) (ranks_by nat_list_cmp_total (λ x. x.0)) (answers_always _ _ _ (λ f a r g h. search rules)))
+-- the place is one of an entry, whose pair is next
+pub loop-entry-preserved : goal.loop-entry-preserved
+loop-entry-preserved c =
+    let es = c.args.entries.now.entries in
+    let items = c.deref-entry-items.result.now in
+    let i : ℕ = c.loop-entry.entry-index in
+    let none : Ranked = record { rank = 0; place = 0 } in
+    let place : ℕ = (slice_index_or items i none).place in
+    let low : i < length items = omega (arith, c.loop-entry-test.true) in
+    let within : place < length es = c.loop-entry.invariant.within i none low in
+    record {
+      within = c.loop-entry.invariant.within;
+      pairs = elim c.match-get_index.branch [
+        | in-Some+in_ok-push w ↦
+            let e : Entry = (w.in-Some.name.now, w.in-Some.stack.now) in
+            let here : slice_get es place ≡ Some e = sym (w.in-Some.ensures.entry ∙ ap (λ (l : List Entry). slice_get l place) c.as_slice.ensures.entries) in
+            let done = c.loop-entry.named.items in
+            pair_more (λ (r : Ranked). r.place) es items i none done c.match-get_index.named.items e low here
+            ((λ j. (w.named-is j).items) ∙ pushed (w.new.result ∷ []) refl w.in_ok-push.was w.push.ensures.items ∙ ap (λ (q : Pair). done ++ q ∷ []) w.new.ensures)
+            c.loop-entry.invariant.pairs
+        | in_default w ↦
+            let found : false ≡ true = subst IsSome w.in_default.is (c.get_index.ensures.found.1 (subst (λ (l : List Entry). place < length l) (sym c.as_slice.ensures.entries) within)) in
+            absurd cc
+      ];
+    }

@@ -1,6 +1,6 @@
 -- The bytes before the place are the same in both names.
 use Rattle.std.proofs.Common.{◌≡◌, ◌-◌, ◌≤◌, take, length}
-use Rattle.m4_state.proofs.named.order_of_ranked.Given as goal
+use Rattle.m4_state.proofs.ranked.order_of.Given as goal
 
 abbrev pub invariant-loop-at : goal.invariant-loop-at
 invariant-loop-at l = record {

@@ -2,7 +2,7 @@
 use Rattle.std.proofs.Common.{◌∙◌, ◌+◌, ◌-◌, ◌≤◌, ℕ, length, arith}
 use Rattle.std.proofs.Math.Nat.{min-le_left, min-le_right}
 use Rattle.m4_state.proofs.ByteWords.{words_decide, word_alike, fewer_alike, lengths_decide}
-use Rattle.m4_state.proofs.named.order_of_ranked.Goals as goal
+use Rattle.m4_state.proofs.ranked.order_of.Goals as goal
 
 pub returns-then-x-y : goal.returns-then-x-y
 returns-then-x-y c =
@@ -32,7 +32,7 @@ returns-then-x-y-2 c =
     let a = c.args.a.now in
     let b = c.args.b.now in
     let last : ℕ = c.min-both.result - 8 in
-    let long : 16 ≤ c.min-both.result = omega (arith, c.if-both-lt-RANKED.false) in
+    let long : 8 ≤ c.min-both.result = omega (arith, c.if-both-lt-WORD.false) in
     c.cmp-then-x-y-2.ensures
     ∙ words_decide a b c.word_at-x-2.ensures.bytes c.word_at-y-2.ensures.bytes last c.word_at-x-2.result c.word_at-y-2.result
     (omega (arith, min-le_left (length a) (length b), c.min-both.ensures, long))
@@ -45,7 +45,7 @@ returns c =
     let a = c.args.a.now in
     let b = c.args.b.now in
     let last : ℕ = c.min-both.result - 8 in
-    let long : 16 ≤ c.min-both.result = omega (arith, c.if-both-lt-RANKED.false) in
+    let long : 8 ≤ c.min-both.result = omega (arith, c.if-both-lt-WORD.false) in
     c.cmp-2.ensures
     ∙ lengths_decide (last + 8) a b (omega (arith, c.min-both.ensures, long))
     (word_alike last c.word_at-x-2.result c.word_at-y-2.result a b c.word_at-x-2.ensures.bytes c.word_at-y-2.ensures.bytes
