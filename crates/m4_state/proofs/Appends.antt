@@ -4,7 +4,8 @@ use Rattle.std.specs.Prelude.{take, length}
 use Rattle.std.proofs.Math.Seq.{take-append-add}
 
 -- the first bytes of a piece that was appended
-pub piece_cut : (before piece all cut : List ℕ) (old len : ℕ) → old ≡ length before → all ≡ before ++ piece → cut ≡ take (old + len) all → cut ≡ before ++ take len piece
+pub piece_cut : (before piece all cut : List ℕ) (old len : ℕ) → old ≡ length before → all ≡ before ++ piece
+    → cut ≡ take (old + len) all → cut ≡ before ++ take len piece
 piece_cut before piece all cut old len o a c =
     c
     ∙ ap (λ (n : ℕ). take (n + len) all) o

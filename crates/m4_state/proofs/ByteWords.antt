@@ -1,5 +1,6 @@
 -- Names that are compared as numbers: words of eight bytes compare as the bytes do.
-use Rattle.std.proofs.Common.{◌≡◌, ℕ, zero, suc, ◌+◌, ◌*◌, ◌<◌, ◌≤◌, List, [], ◌∷◌, ◌++◌, length, get_or, take, drop, drop-cons, Ordering, Less, Equal, Greater, refl, sym, ap, subst, ◌∙◌, arith, min}
+use Rattle.std.proofs.Common.{◌≡◌, ℕ, zero, suc, ◌+◌, ◌*◌, ◌<◌, ◌≤◌, List, [], ◌∷◌, ◌++◌, length, get_or, take, drop}
+use Rattle.std.proofs.Common.{drop-cons, Ordering, Less, Equal, Greater, refl, sym, ap, subst, ◌∙◌, arith, min}
 use Rattle.std.specs.Ordering.{nat_cmp, ordering_then, MatchOrdering}
 use Rattle.std.specs.Cmp.{ranks}
 use Rattle.std.specs.Cmp.Lexicographic.{slice_cmp}
@@ -43,10 +44,12 @@ spells : (n a : ℕ) (us vs : List ℕ) → n ≤ length us → n ≤ length vs 
 spells zero a us vs p q g h = record { apart = λ f. absurd (f refl); alike = λ _. refl }
 spells (suc n) a [] vs p q g h = absurd (omega arith)
 spells (suc n) a (u ∷ us) [] p q g h = absurd (omega arith)
-spells (suc n) a (u ∷ us) (v ∷ vs) p q g h = by (spells n (a * 256 + u) us vs (omega arith) (omega arith) (λ k. g (suc k)) (λ k. h (suc k))) (nat_cmp u v) refl (ranks u v)
+spells (suc n) a (u ∷ us) (v ∷ vs) p q g h =
+    by (spells n (a * 256 + u) us vs (omega arith) (omega arith) (λ k. g (suc k)) (λ k. h (suc k))) (nat_cmp u v) refl (ranks u v)
   where
     by : Settles us vs n (word (a * 256 + u) (take n us)) (word (a * 256 + u) (take n vs))
-        → (r : Ordering) → nat_cmp u v ≡ r → MatchOrdering r (u < v) (u ≡ v) (v < u) → Settles (u ∷ us) (v ∷ vs) (suc n) (word (a * 256 + u) (take n us)) (word (a * 256 + v) (take n vs))
+        → (r : Ordering) → nat_cmp u v ≡ r → MatchOrdering r (u < v) (u ≡ v) (v < u)
+        → Settles (u ∷ us) (v ∷ vs) (suc n) (word (a * 256 + u) (take n us)) (word (a * 256 + v) (take n vs))
     by rest Less e l =
         let under : u < v = l in
         let t = rises n (a * 256 + u) (a * 256 + v) us vs (omega arith) (omega arith) (λ k. g (suc k)) (omega arith) in
@@ -72,13 +75,15 @@ past (suc i) (x ∷ xs) (y ∷ ys) a b h =
 
 module _ (xs ys : List ℕ) (bx : AreBytes xs) (by : AreBytes ys) where
   -- the words from i on, where the bytes before are alike
-  pub words_at : (i : ℕ) → i + 8 ≤ length xs → i + 8 ≤ length ys → take i xs ≡ take i ys → Settles (drop i xs) (drop i ys) 8 (word 0 (take 8 (drop i xs))) (word 0 (take 8 (drop i ys)))
+  pub words_at : (i : ℕ) → i + 8 ≤ length xs → i + 8 ≤ length ys → take i xs ≡ take i ys
+      → Settles (drop i xs) (drop i ys) 8 (word 0 (take 8 (drop i xs))) (word 0 (take 8 (drop i ys)))
   words_at i p q h =
       spells 8 0 (drop i xs) (drop i ys) (omega (arith, length-drop i xs)) (omega (arith, length-drop i ys))
       (λ k. subst (λ (b : ℕ). b < 256) (sym (get_or-drop i xs k 0)) (bx (i + k))) (λ k. subst (λ (b : ℕ). b < 256) (sym (get_or-drop i ys k 0)) (by (i + k)))
 
   -- words that differ decide
-  pub words_decide : (i x y : ℕ) → i + 8 ≤ length xs → i + 8 ≤ length ys → take i xs ≡ take i ys → x ≡ word 0 (take 8 (drop i xs)) → y ≡ word 0 (take 8 (drop i ys)) → (x ≡ y → ⊥) → nat_cmp x y ≡ slice_cmp nat_cmp xs ys
+  pub words_decide : (i x y : ℕ) → i + 8 ≤ length xs → i + 8 ≤ length ys → take i xs ≡ take i ys
+      → x ≡ word 0 (take 8 (drop i xs)) → y ≡ word 0 (take 8 (drop i ys)) → (x ≡ y → ⊥) → nat_cmp x y ≡ slice_cmp nat_cmp xs ys
   words_decide i x y p q h ex ey f =
       (λ j. nat_cmp (ex j) (ey j)) ∙ sym (past i xs ys (omega arith) (omega arith) h ∙ (words_at i p q h).apart (λ e. f (ex ∙ e ∙ sym ey)))
 
@@ -154,11 +159,13 @@ rank_of_long xs a le bytes e =
 -- names whose first eight bytes spell different numbers compare as these do
 pub ranks_decide : (xs ys : List ℕ) (a b : ℕ) → IsRank xs a → IsRank ys b → (a ≡ b → ⊥) → nat_cmp a b ≡ slice_cmp nat_cmp xs ys
 ranks_decide xs ys a b rx ry f =
-    words_decide (filled 8 xs) (filled 8 ys) rx.bytes ry.bytes 0 a b (omega (arith, length-filled 8 xs)) (omega (arith, length-filled 8 ys)) refl rx.number ry.number f
+    words_decide (filled 8 xs) (filled 8 ys) rx.bytes ry.bytes 0 a b (omega (arith, length-filled 8 xs))
+    (omega (arith, length-filled 8 ys)) refl rx.number ry.number f
     ∙ filled_decide 8 xs ys (λ e. f (rx.number ∙ ap (λ l. word 0 (take 8 l)) e ∙ sym ry.number))
 
 -- after bytes that are the same too
-pub ranks_decide_after : (n : ℕ) (first xs ys : List ℕ) (a b : ℕ) → BeginsAlike n first xs → BeginsAlike n first ys → IsRank (drop n xs) a → IsRank (drop n ys) b → (a ≡ b → ⊥)
+pub ranks_decide_after : (n : ℕ) (first xs ys : List ℕ) (a b : ℕ) → BeginsAlike n first xs → BeginsAlike n first ys
+    → IsRank (drop n xs) a → IsRank (drop n ys) b → (a ≡ b → ⊥)
     → nat_cmp a b ≡ slice_cmp nat_cmp xs ys
 ranks_decide_after n first xs ys a b p q rx ry f =
     ranks_decide (drop n xs) (drop n ys) a b rx ry f ∙ sym (past n xs ys p.within q.within (p.alike ∙ sym q.alike))
@@ -173,11 +180,13 @@ ends (u ∷ us) [] n a b p q o = let g : b < a = omega arith in sym (above g)
 ends (u ∷ us) (v ∷ vs) n a b p q o = absurd (omega (arith, le-min {k = n + 1} {a = a} {b = b} (omega arith) (omega arith)))
 
 -- all the bytes of one of them are the same in the other
-pub lengths_decide : (n : ℕ) (xs ys : List ℕ) → n ≡ min (length xs) (length ys) → take n xs ≡ take n ys → nat_cmp (length xs) (length ys) ≡ slice_cmp nat_cmp xs ys
+pub lengths_decide : (n : ℕ) (xs ys : List ℕ) → n ≡ min (length xs) (length ys) → take n xs ≡ take n ys
+    → nat_cmp (length xs) (length ys) ≡ slice_cmp nat_cmp xs ys
 lengths_decide n xs ys e h =
     let p : n ≤ length xs = omega (arith, min-le_left (length xs) (length ys)) in
     let q : n ≤ length ys = omega (arith, min-le_right (length xs) (length ys)) in
-    sym (past n xs ys p q h ∙ ends (drop n xs) (drop n ys) n (length xs) (length ys) (omega (arith, length-drop n xs)) (omega (arith, length-drop n ys)) (omega arith))
+    sym (past n xs ys p q h ∙ ends (drop n xs) (drop n ys) n (length xs) (length ys) (omega (arith, length-drop n xs))
+    (omega (arith, length-drop n ys)) (omega arith))
 
 -- fewer bytes are the same too
 pub fewer_alike : (m n : ℕ) (xs ys : List ℕ) → m ≤ n → take n xs ≡ take n ys → take m xs ≡ take m ys

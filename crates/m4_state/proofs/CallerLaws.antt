@@ -1,11 +1,16 @@
 -- Laws that crates above cite: a builtin is found by its name; a text is put piece by piece into a
 -- writer, and taken block by block from a reader.
-use Rattle.std.proofs.Common.{◌≡◌, ℕ, ◌+◌, ◌<◌, List, [], ◌++◌, length, get_or, take, drop, drop-cons, add-one, Option, Some, None, Result, Ok, Err, refl, sym, ap, ◌∙◌, append_assoc}
+use Rattle.std.proofs.Common.{◌≡◌, ℕ, ◌+◌, ◌<◌, List, [], ◌++◌, length, get_or, take, drop, drop-cons, add-one, Option}
+use Rattle.std.proofs.Common.{Some, None, Result, Ok, Err, refl, sym, ap, ◌∙◌, append_assoc}
 use Rattle.std.specs.List.{flat_map}
 use Rattle.std.specs.Prelude.{IsErr}
 use Rattle.std.proofs.lemmas.List.{take-append-drop, append-nil}
 use Rattle.m4_state.specs.declared.builtin.Builtin.{Builtin}
-use Rattle.m4_state.specs.declared.builtin.Builtin.TheVariants.{Define, Undefine, Pushdef, Popdef, Defn, Indir, IndirBuiltin, Ifdef, Ifelse, Shift, Dumpdef, Dnl, Changequote, Changecom, Divert, Undivert, Divnum, Len, Index, Substr, Translit, Incr, Decr, Eval, Errprint, M4wrap, M4exit, File, Line}
+use Rattle.m4_state.specs.declared.builtin.Builtin.TheVariants.{Define, Undefine, Pushdef, Popdef, Defn, Indir}
+use Rattle.m4_state.specs.declared.builtin.Builtin.TheVariants.{IndirBuiltin, Ifdef, Ifelse, Shift, Dumpdef, Dnl}
+use Rattle.m4_state.specs.declared.builtin.Builtin.TheVariants.{Changequote, Changecom, Divert, Undivert, Divnum, Len}
+use Rattle.m4_state.specs.declared.builtin.Builtin.TheVariants.{Index, Substr, Translit, Incr, Decr, Eval, Errprint}
+use Rattle.m4_state.specs.declared.builtin.Builtin.TheVariants.{M4wrap, M4exit, File, Line}
 use Rattle.m4_state.specs.Builtin.{builtin_named, name_of}
 use Rattle.m4_state.specs.Device.{Script, after_bytes, with_bytes, HasPut, HasBegun, Puts}
 
@@ -55,7 +60,8 @@ pub after_bytes-append : (a b : List ℕ) (s : Option Script) → after_bytes a 
 after_bytes-append a b None = refl
 after_bytes-append a b (Some s) = ap (λ (bs : List ℕ). let t : Script = record { bytes = bs; fails = s.fails } in Some t) (sym (append_assoc a b s.bytes))
 
-pub HasPut-more : {old mid new : Option (List ℕ)} {bytes rest : List ℕ} (n : ℕ) → HasPut old mid bytes rest → new ≡ with_bytes mid (take n rest) → HasPut old new bytes (drop n rest)
+pub HasPut-more : {old mid new : Option (List ℕ)} {bytes rest : List ℕ} (n : ℕ) → HasPut old mid bytes rest
+    → new ≡ with_bytes mid (take n rest) → HasPut old new bytes (drop n rest)
 HasPut-more {old} {mid} {new} {bytes} {rest} n p e = record {
   front = p.front ++ take n rest;
   parts = p.parts ∙ ap (λ (t : List ℕ). p.front ++ t) (sym (take-append-drop n rest)) ∙ sym (append_assoc p.front (take n rest) (drop n rest));
@@ -67,7 +73,8 @@ pub HasPut-start : (old : Option (List ℕ)) (bytes : List ℕ) → HasPut old o
 HasPut-start old bytes = record { front = []; parts = refl; holds = with_bytes-nil old }
 
 -- the next piece is put
-pub HasPut-put : {old mid new : Option (List ℕ)} (bytes piece rest : List ℕ) → HasPut old mid bytes (piece ++ rest) → new ≡ with_bytes mid piece → HasPut old new bytes rest
+pub HasPut-put : {old mid new : Option (List ℕ)} (bytes piece rest : List ℕ) → HasPut old mid bytes (piece ++ rest)
+    → new ≡ with_bytes mid piece → HasPut old new bytes rest
 HasPut-put {old} bytes piece rest p e = record {
   front = p.front ++ piece;
   parts = p.parts ∙ sym (append_assoc p.front piece rest);
@@ -75,12 +82,14 @@ HasPut-put {old} bytes piece rest p e = record {
 }
 
 -- the next piece fails
-pub HasPut-cut : {old mid new : Option (List ℕ)} (bytes piece rest : List ℕ) → HasPut old mid bytes (piece ++ rest) → (cut : List ℕ) → HasPut mid new piece cut → HasBegun old new bytes
+pub HasPut-cut : {old mid new : Option (List ℕ)} (bytes piece rest : List ℕ) → HasPut old mid bytes (piece ++ rest)
+    → (cut : List ℕ) → HasPut mid new piece cut → HasBegun old new bytes
 HasPut-cut {old} bytes piece rest p cut q = (
   cut ++ rest,
   record {
     front = p.front ++ q.front;
-    parts = p.parts ∙ ap (λ (t : List ℕ). p.front ++ (t ++ rest)) q.parts ∙ ap (λ (t : List ℕ). p.front ++ t) (append_assoc q.front cut rest) ∙ sym (append_assoc p.front q.front (cut ++ rest));
+    parts = p.parts ∙ ap (λ (t : List ℕ). p.front ++ (t ++ rest)) q.parts
+        ∙ ap (λ (t : List ℕ). p.front ++ t) (append_assoc q.front cut rest) ∙ sym (append_assoc p.front q.front (cut ++ rest));
     holds = q.holds ∙ ap (λ (o : Option (List ℕ)). with_bytes o q.front) p.holds ∙ with_bytes-append old p.front q.front;
   },
 )
@@ -90,12 +99,21 @@ pub HasPut-all : {old new : Option (List ℕ)} (bytes : List ℕ) → HasPut old
 HasPut-all {old} bytes p = p.holds ∙ ap (with_bytes old) (sym (append-nil p.front) ∙ sym p.parts)
 
 -- the last piece decides
-pub HasPut-last : {A E : Type 0} {old mid : Option (List ℕ)} (new : Option (List ℕ)) (r : Result A E) (bytes piece : List ℕ) → HasPut old mid bytes piece → Puts r mid new piece → Puts r old new bytes
-HasPut-last {old = old} new (Ok x) bytes piece p q = q ∙ ap (λ (o : Option (List ℕ)). with_bytes o piece) p.holds ∙ with_bytes-append old p.front piece ∙ ap (with_bytes old) (sym p.parts)
-HasPut-last new (Err x) bytes piece p q = HasPut-cut bytes piece [] (record { front = p.front; parts = p.parts ∙ ap (λ (t : List ℕ). p.front ++ t) (sym (append-nil piece)); holds = p.holds }) q.0 q.1
+pub HasPut-last : {A E : Type 0} {old mid : Option (List ℕ)} (new : Option (List ℕ)) (r : Result A E)
+    (bytes piece : List ℕ) → HasPut old mid bytes piece → Puts r mid new piece → Puts r old new bytes
+HasPut-last {old = old} new (Ok x) bytes piece p q = q ∙ ap (λ (o : Option (List ℕ)). with_bytes o piece) p.holds
+    ∙ with_bytes-append old p.front piece ∙ ap (with_bytes old) (sym p.parts)
+HasPut-last new (Err x) bytes piece p q =
+    HasPut-cut bytes piece [] (record {
+      front = p.front;
+      parts = p.parts
+          ∙ ap (λ (t : List ℕ). p.front ++ t) (sym (append-nil piece));
+      holds = p.holds;
+    }) q.0 q.1
 
 -- the first of the items that are left
-pub flat_map-drop : {X : Type 0} (f : X → List ℕ) (xs : List X) (i : ℕ) (d : X) → i < length xs → flat_map f (drop i xs) ≡ f (get_or xs i d) ++ flat_map f (drop (i + 1) xs)
+pub flat_map-drop : {X : Type 0} (f : X → List ℕ) (xs : List X) (i : ℕ) (d : X) → i < length xs
+    → flat_map f (drop i xs) ≡ f (get_or xs i d) ++ flat_map f (drop (i + 1) xs)
 flat_map-drop f xs i d lt = ap (flat_map f) (drop-cons xs i d lt) ∙ ap (λ (j : ℕ). f (get_or xs i d) ++ flat_map f (drop j xs)) (sym (add-one i))
 
 -- a call that failed amid a text leaves a beginning of it

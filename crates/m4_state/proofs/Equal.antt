@@ -1,6 +1,6 @@
 -- Byte strings that are compared by words or byte by byte.
-use Rattle.std.proofs.Common.{◌≡◌, ℕ, ◌+◌, ◌≤◌, Bool, true, false, List, length, get_or, take, drop, drop-cons, nat_eq}
-use Rattle.std.proofs.Common.{◌∷◌, ◌++◌, [], inl, inr, refl, sym, ap, ◌∙◌, arith}
+use Rattle.std.proofs.Common.{◌≡◌, ℕ, ◌+◌, ◌≤◌, Bool, true, false, List, length, take, drop, nat_eq}
+use Rattle.std.proofs.Common.{◌++◌, inl, inr, refl, sym, ap, ◌∙◌, arith}
 use Rattle.std.specs.Cmp.Lexicographic.{pointwise, bytes_decides}
 use Rattle.std.proofs.lemmas.Bool.Decides.{eqb_tells}
 use Rattle.std.proofs.Math.Seq.{take-add}
@@ -35,18 +35,15 @@ alike_more a b i n h k = take-add i n a ∙ (λ j. h j ++ k j) ∙ sym (take-add
 pub alike_less : (a b : List ℕ) (i k : ℕ) → i ≤ k → take k a ≡ take k b → take i a ≡ take i b
 alike_less a b i k le h = sym (take-take i k a le) ∙ ap (take i) h ∙ sym (sym (take-take i k b le))
 
--- one more byte
-pub byte_more : (a b : List ℕ) (k : ℕ) → k + 1 ≤ length a → k + 1 ≤ length b → take k a ≡ take k b → get_or a k 0 ≡ get_or b k 0 → take (k + 1) a ≡ take (k + 1) b
-byte_more a b k p q h e =
-    alike_more a b k 1 h (ap (take 1) (drop-cons a k 0 (omega arith)) ∙ ap (λ (x : ℕ). x ∷ []) e ∙ sym (ap (take 1) (drop-cons b k 0 (omega arith))))
-
 module _ (a b : List ℕ) (ba : AreBytes a) (bb : AreBytes b) where
   -- one more word
-  pub word_more : (i x y : ℕ) → i + 8 ≤ length a → i + 8 ≤ length b → take i a ≡ take i b → x ≡ word 0 (take 8 (drop i a)) → y ≡ word 0 (take 8 (drop i b)) → x ≡ y → take (i + 8) a ≡ take (i + 8) b
+  pub word_more : (i x y : ℕ) → i + 8 ≤ length a → i + 8 ≤ length b → take i a ≡ take i b
+      → x ≡ word 0 (take 8 (drop i a)) → y ≡ word 0 (take 8 (drop i b)) → x ≡ y → take (i + 8) a ≡ take (i + 8) b
   word_more i x y p q h ex ey e = alike_more a b i 8 h ((words_at a b ba bb i p q h).alike (sym ex ∙ e ∙ ey))
 
   -- the last word
-  pub last_word : (i k x y : ℕ) → i + 8 ≡ length a → length a ≡ length b → i ≤ k → take k a ≡ take k b → x ≡ word 0 (take 8 (drop i a)) → y ≡ word 0 (take 8 (drop i b)) → x ≡ y → a ≡ b
+  pub last_word : (i k x y : ℕ) → i + 8 ≡ length a → length a ≡ length b → i ≤ k → take k a ≡ take k b
+      → x ≡ word 0 (take 8 (drop i a)) → y ≡ word 0 (take 8 (drop i b)) → x ≡ y → a ≡ b
   last_word i k x y p q le h ex ey e =
       sym (take_all (i + 8) a (omega arith))
       ∙ word_more i x y (omega arith) (omega arith) (alike_less a b i k le h) ex ey e

@@ -19,7 +19,8 @@ module _ (p f : ℕ → Bool) (opposite : (b : ℕ) → f b ≡ not (p b)) where
   run_in_front (suc n) [] l h = absurd (omega (arith, l))
   run_in_front (suc n) (b ∷ x) l h = ap (λ v. longer v x) (opposite b) ∙ by (not (p b)) h (run_in_front n x (omega (arith, l)))
     where
-      by : (v : Bool) → cond v (1 + unmarked (take n x)) 0 < suc n → (unmarked (take n x) < n → prefix_len f x ≡ unmarked (take n x)) → longer v x ≡ cond v (1 + unmarked (take n x)) 0
+      by : (v : Bool) → cond v (1 + unmarked (take n x)) 0 < suc n
+          → (unmarked (take n x) < n → prefix_len f x ≡ unmarked (take n x)) → longer v x ≡ cond v (1 + unmarked (take n x)) 0
       by true less rest = let same = rest (omega (arith, less)) in omega (arith, same)
       by false less rest = refl
 
@@ -29,7 +30,9 @@ module _ (p f : ℕ → Bool) (opposite : (b : ℕ) → f b ≡ not (p b)) where
   run_through (suc n) [] l h = absurd (omega (arith, l))
   run_through (suc n) (b ∷ x) l h = ap (λ v. longer v x) (opposite b) ∙ by (not (p b)) h (run_through n x (omega (arith, l)))
     where
-      by : (v : Bool) → cond v (1 + unmarked (take n x)) 0 ≡ suc n → (unmarked (take n x) ≡ n → prefix_len f x ≡ n + prefix_len f (drop n x)) → longer v x ≡ suc n + prefix_len f (drop n x)
+      by : (v : Bool) → cond v (1 + unmarked (take n x)) 0 ≡ suc n
+          → (unmarked (take n x) ≡ n → prefix_len f x ≡ n + prefix_len f (drop n x))
+          → longer v x ≡ suc n + prefix_len f (drop n x)
       by true all rest = let same = rest (omega (arith, all)) in omega (arith, same)
       by false all rest = absurd (omega (arith, all))
 

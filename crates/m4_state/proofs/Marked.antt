@@ -15,7 +15,8 @@ pub more_marked : (m n : List ℕ) → ((x : List ℕ) → is_marked m x ≡ tru
 more_marked m n stay [] h = tt
 more_marked m n stay (e ∷ t) h = (stay e.0 h.0, more_marked m n stay t h.1)
 
-pub put_marked : (m : List ℕ) (t : Pairs) (name : List ℕ) (stack : List Def) → is_marked m name ≡ true → AreMarked m t → AreMarked m (put byte_order name stack t)
+pub put_marked : (m : List ℕ) (t : Pairs) (name : List ℕ) (stack : List Def) → is_marked m name ≡ true → AreMarked m t
+    → AreMarked m (put byte_order name stack t)
 put_marked m t name stack is h = AllByRecursion-put byte_order nat_list_cmp_total byte_order-IsAntisymmetric (IsMarkedBy m) name stack t is h
 
 pub without_marked : (m : List ℕ) (t : Pairs) (name : List ℕ) → AreMarked m t → AreMarked m (without t name)
@@ -43,7 +44,9 @@ unmarked_absent m t name h none = by (find byte_order name t) refl
         absurd (subst T no tt)
 
 -- what an operation leaves, whether it failed
-pub marked_either : {X E : Type 0} (r : Result X E) (m n : List ℕ) (old new changed : Pairs) → ((x : List ℕ) → is_marked m x ≡ true → is_marked n x ≡ true) → AreMarked m old → (AreMarked n old → AreMarked n changed) → OnOk r (new ≡ changed) → OnErr r (new ≡ old) → AreMarked n new
+pub marked_either : {X E : Type 0} (r : Result X E) (m n : List ℕ) (old new changed : Pairs)
+    → ((x : List ℕ) → is_marked m x ≡ true → is_marked n x ≡ true) → AreMarked m old
+    → (AreMarked n old → AreMarked n changed) → OnOk r (new ≡ changed) → OnErr r (new ≡ old) → AreMarked n new
 marked_either (Ok x) m n old new changed stay h change ok err = subst (AreMarked n) (sym ok) (change (more_marked m n stay old h))
 marked_either (Err x) m n old new changed stay h change ok err = subst (AreMarked n) (sym err) (more_marked m n stay old h)
 

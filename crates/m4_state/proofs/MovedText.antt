@@ -1,5 +1,6 @@
 -- A text that is moved to another number: if that has none, its place is taken first, with an empty text.
-use Rattle.std.proofs.Common.{◌≡◌, ◌≢◌, ◌<◌, ◌^◌, ℕ, ℤ, Bool, true, false, cond, not, T, List, [], ◌++◌, length, Option, Some, None, unwrap_or, Ordering, Less, Equal, Greater, refl, sym, ap, subst, ◌∙◌}
+use Rattle.std.proofs.Common.{◌≡◌, ◌≢◌, ◌<◌, ◌^◌, ℕ, ℤ, Bool, true, false, cond, not, T, List, [], ◌++◌, length, Option}
+use Rattle.std.proofs.Common.{Some, None, unwrap_or, Ordering, Less, Equal, Greater, refl, sym, ap, subst, ◌∙◌}
 use Rattle.std.specs.Prelude.{IsTrue, Vec, FitsSigned, Result, Ok, Err, OnOk, OnErr, option_map}
 use Rattle.std.specs.Int.{w32}
 use Rattle.std.specs.Ordering.{int_cmp, int_eq, is_eq}
@@ -60,7 +61,8 @@ text_is : (n : ℤ) (ds : List Diversion) (o : Option (List ℕ)) → o ≡ find
 text_is n ds o found = ap (λ (p : Option (List ℕ)). unwrap_or p []) found
 
 -- the numbers n and c differ, and c gets an empty text
-module _ (n c : ℤ) (es fs : List Entry) (v : Text) (sorted : IsTrue (is_sorted int_cmp (texts_of es))) (apart : int_eq n c ≡ false) (written : fs ≡ insert_entry int_cmp es c v) (empty : v.items ≡ []) where
+module _ (n c : ℤ) (es fs : List Entry) (v : Text) (sorted : IsTrue (is_sorted int_cmp (texts_of es)))
+    (apart : int_eq n c ≡ false) (written : fs ≡ insert_entry int_cmp es c v) (empty : v.items ≡ []) where
   pub placed : texts_of fs ≡ put int_cmp c [] (texts_of es)
   placed = ap texts_of written ∙ insert-texts_of es c v ∙ ap (λ (x : List ℕ). put int_cmp c x (texts_of es)) empty
 
@@ -106,7 +108,8 @@ module _ (n c : ℤ) (es fs : List Entry) (v : Text) (sorted : IsTrue (is_sorted
           ∙ ap (λ (x : List ℕ). put int_cmp c x (without_text (texts_of es) n)) taken_text
 
 -- a move keeps diversions in order, whether it was refused or not
-pub valid_after_move : {A E : Type 0} (r : Result A E) (n c : ℤ) (before : List ℕ) (ds new : List Diversion) → IsTrue (holds_text c) → FitsSigned w32 c → text_at ds n ≢ []
+pub valid_after_move : {A E : Type 0} (r : Result A E) (n c : ℤ) (before : List ℕ) (ds new : List Diversion)
+    → IsTrue (holds_text c) → FitsSigned w32 c → text_at ds n ≢ []
     → OnOk r (new ≡ put int_cmp c (before ++ text_at ds n) (without_text ds n)) → OnErr r (new ≡ ds) → OnOk r (length (before ++ text_at ds n) < 2 ^ 64)
     → AreDiversions ds × AreSizedDiversions ds → AreDiversions new × AreSizedDiversions new
 valid_after_move (Ok x) n c before ds new positive fits some ok err sized h = (
@@ -132,12 +135,15 @@ without-put_itself n x ds h =
     (is_sorted-where_key int_cmp (λ q. not (int_eq n q)) ds (sorted_T ds h))
     found
   where
-    by : (q : ℤ) (r : Ordering) → int_cmp q n ≡ r → cond (not (int_eq n q)) (cond (is_eq r) (Some x) (find int_cmp q ds)) None ≡ cond (not (int_eq n q)) (find int_cmp q ds) None
+    by : (q : ℤ) (r : Ordering) → int_cmp q n ≡ r
+        → cond (not (int_eq n q)) (cond (is_eq r) (Some x) (find int_cmp q ds)) None
+        ≡ cond (not (int_eq n q)) (find int_cmp q ds) None
     by q Less e = refl
     by q Greater e = refl
     by q Equal e =
         let same : n ≡ q = sym (int_cmp-IsAntisymmetric q n e) in
-        let gone : not (int_eq n q) ≡ false = ap (λ (z : ℤ). not (is_eq (int_cmp n z))) (sym same) ∙ ap (λ (r : Ordering). not (is_eq r)) (tied_itself int_cmp_total n) in
+        let gone : not (int_eq n q) ≡ false = ap (λ (z : ℤ). not (is_eq (int_cmp n z))) (sym same)
+        ∙ ap (λ (r : Ordering). not (is_eq r)) (tied_itself int_cmp_total n) in
         ap (λ (b : Bool). cond b (Some x) None) gone ∙ sym (ap (λ (b : Bool). cond b (find int_cmp q ds) None) gone)
 
     found : (q : ℤ) → find int_cmp q (without_text (put int_cmp n x ds) n) ≡ find int_cmp q (without_text ds n)
@@ -150,7 +156,8 @@ without-put_itself n x ds h =
 -- a text that is put where it is changes nothing
 put_itself : (n : ℤ) (x : List ℕ) (ds : List Diversion) → IsTrue (is_sorted int_cmp ds) → find int_cmp n ds ≡ Some x → put int_cmp n x ds ≡ ds
 put_itself n x ds h is =
-    same_entries int_cmp int_cmp_total int_cmp-IsAntisymmetric (put int_cmp n x ds) ds (is_sorted-put int_cmp int_cmp_total n x ds (sorted_T ds h)) (sorted_T ds h) found
+    same_entries int_cmp int_cmp_total int_cmp-IsAntisymmetric (put int_cmp n x ds) ds
+    (is_sorted-put int_cmp int_cmp_total n x ds (sorted_T ds h)) (sorted_T ds h) found
   where
     by : (q : ℤ) (r : Ordering) → int_cmp q n ≡ r → cond (is_eq r) (Some x) (find int_cmp q ds) ≡ find int_cmp q ds
     by q Less e = refl
@@ -218,7 +225,8 @@ module _ (n c : ℤ) (ds : List Diversion) (sorted : IsTrue (is_sorted int_cmp d
           left
           ∙ ap (λ (x : List Diversion). without_text x n) (added ∙ ap (λ (x : List ℕ). put int_cmp c x es) added_text)
           ∙ without-put n c (text_at ds c ++ text_at ds n) es out_sorted apart
-          ∙ ap (λ (x : List Diversion). put int_cmp c (text_at ds c ++ text_at ds n) x) (ap (λ (x : List Diversion). without_text x n) out ∙ without-put_itself n [] ds sorted)
+          ∙ ap (λ (x : List Diversion). put int_cmp c (text_at ds c ++ text_at ds n) x)
+          (ap (λ (x : List Diversion). without_text x n) out ∙ without-put_itself n [] ds sorted)
 
 -- ---- which of the two it is
 
@@ -237,7 +245,8 @@ pub placed_alone : {A E : Type 0} (r : Result A E) (c : ℤ) (before text : List
 placed_alone (Ok x) c before text left new none ok = ok ∙ sym (ap (λ (b : List ℕ). put int_cmp c (b ++ text) left) none)
 placed_alone (Err e) c before text left new none ok = tt
 
-pub sized_alone : {A E : Type 0} (r : Result A E) (before text : List ℕ) → before ≡ [] → OnOk r (length text < 2 ^ 64) → OnOk r (length (before ++ text) < 2 ^ 64)
+pub sized_alone : {A E : Type 0} (r : Result A E) (before text : List ℕ) → before ≡ [] → OnOk r (length text < 2 ^ 64)
+    → OnOk r (length (before ++ text) < 2 ^ 64)
 sized_alone r before text none sized = rw none sized
 
 -- what a move gives, in the words of the state

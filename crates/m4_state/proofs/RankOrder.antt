@@ -27,7 +27,8 @@ module _ {X : Type 0} (p : X → ℕ) (B : ℕ → Type 0) where
   All-from_places xs h k d l = subst B (get_or-map p xs k d (p d) l) (h k (p d) (omega (arith, l, length-map xs p)))
 
   -- ranked elements, sorted: what was true of their places, and of them
-  pub facts_sorted : (R : X → Type 0) (run ranked sorted : List X) → All (λ x. B (p x)) run → map p ranked ≡ map p run → All R ranked → IsPermutation ranked sorted
+  pub facts_sorted : (R : X → Type 0) (run ranked sorted : List X) → All (λ x. B (p x)) run → map p ranked ≡ map p run
+      → All R ranked → IsPermutation ranked sorted
       → All (λ x. B (p x) × R x) sorted
   facts_sorted R run ranked sorted b same r moved k d l =
       let places : All (λ x. B (p x)) ranked = All-from_places ranked (subst (All B) (sym same) (All-map B p run b)) in

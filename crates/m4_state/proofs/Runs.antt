@@ -1,12 +1,16 @@
 -- A list that is sorted run by run: the runs before a place are sorted, and none of their elements goes after a later one.
-use Rattle.std.proofs.Common.{◌≡◌, ◌≢◌, ℕ, ◌+◌, ◌-◌, ◌<◌, ◌≤◌, Bool, false, List, ◌++◌, map, get_or, take, drop, length, inl, inr, ◌⊎◌, refl, sym, ap, subst, ◌∙◌, arith}
+use Rattle.std.proofs.Common.{◌≡◌, ◌≢◌, ℕ, ◌+◌, ◌-◌, ◌<◌, ◌≤◌, Bool, false, List, ◌++◌, map, get_or, take, drop, length}
+use Rattle.std.proofs.Common.{inl, inr, ◌⊎◌, sym, ap, subst, ◌∙◌, arith}
 use Rattle.std.specs.List.{All, AllWithin, HoldsAt}
 use Rattle.std.specs.List.Sorted.{IsPermutation, IsSortedBy, IsSortedByKey, IsSortedWithin}
 use Rattle.std.specs.Ordering.{nat_cmp}
 use Rattle.std.proofs.lemmas.Bool.{cases_lt}
-use Rattle.std.proofs.lemmas.List.{length-map, length-drop, length-take-le, get_or-map, get_or-take, get_or-drop, get_or_append_left, get_or-append_right, map-append, drop-drop}
+use Rattle.std.proofs.lemmas.List.{length-map, length-drop, length-take-le, get_or-map, get_or-take, get_or-drop}
+use Rattle.std.proofs.lemmas.List.{get_or_append_left, get_or-append_right, map-append, drop-drop}
 use Rattle.std.proofs.lemmas.List.Elements.{All-from_get_or, All-map}
-use Rattle.std.proofs.lemmas.List.Sorted.{IsPermutation-refl, IsPermutation-trans, IsPermutation-append_left, IsPermutation-append_right, All-permutation, length_permutation, IsNonDecreasingBy-from_sort}
+use Rattle.std.proofs.lemmas.List.Sorted.{IsPermutation-refl, IsPermutation-trans, IsPermutation-append_left}
+use Rattle.std.proofs.lemmas.List.Sorted.{IsPermutation-append_right, All-permutation, length_permutation}
+use Rattle.std.proofs.lemmas.List.Sorted.{IsNonDecreasingBy-from_sort}
 use Rattle.std.proofs.lemmas.Slice.{drop-put_mid}
 use borrow.Rule.Slice.PartMut.{mid_of, put_mid, post_of, put_same}
 
@@ -20,27 +24,12 @@ module _ {X : Type 0} (p : X → ℕ) (lo : ℕ → ℕ → Bool) where
     pub rises : IsSortedWithin (λ x y. lo (p x) (p y)) xs 0 at
     pub over : (i j : ℕ) (d : X) → i < at → at ≤ j → j < length xs → lo (p (get_or xs j d)) (p (get_or xs i d)) ≡ false
 
-  -- none are yet
-  pub no_runs : (xs : List X) → Runs xs xs 0
-  no_runs xs = record {
-    within = omega arith;
-    long = refl;
-    moves = IsPermutation-refl (map p xs);
-    rest = refl;
-    rises = λ k d low lt. absurd (omega arith);
-    over = λ i j d l. absurd (omega arith);
-  }
-
   -- what is after the place is as it was
   pub same_after : (xs0 xs : List X) (at : ℕ) → Runs xs0 xs at → (j : ℕ) (d : X) → at ≤ j → get_or xs j d ≡ get_or xs0 j d
   same_after xs0 xs at h j d le =
       let here : at + (j - at) ≡ j = omega arith in
       ap (λ (i : ℕ). get_or xs i d) (sym here) ∙ sym (get_or-drop at xs (j - at) d) ∙ ap (λ (l : List X). get_or l (j - at) d) h.rest
       ∙ get_or-drop at xs0 (j - at) d ∙ ap (λ (i : ℕ). get_or xs0 i d) here
-
-  -- all are
-  pub all_runs : (xs0 xs : List X) (at : ℕ) → Runs xs0 xs at → length xs ≤ at → IsSortedBy (λ x y. lo (p x) (p y)) xs
-  all_runs xs0 xs at h le k d low lt = h.rises k d low (omega (arith, h.within))
 
   module _ (xs0 xs ys : List X) (at end : ℕ) (h : Runs xs0 xs at) (more : at < end) (le : end ≤ length xs)
       (moved : IsPermutation (map p (mid_of at (end - at) xs)) (map p ys)) (up : IsSortedBy (λ x y. lo (p x) (p y)) ys)
@@ -64,7 +53,8 @@ module _ {X : Type 0} (p : X → ℕ) (lo : ℕ → ℕ → Bool) where
     each : (P : ℕ → Type 0) (d : X) → ((i : ℕ) → at ≤ i → i < end → P (p (get_or xs i d))) → (k : ℕ) → k < end - at → P (p (get_or ys k d))
     each P d f k l =
         let all : All (λ x. P (p x)) mid = All-from_get_or (λ (x : X). P (p x)) mid d (λ i il.
-        let short : i < end - at = omega (arith, il, long_mid) in subst (λ (x : X). P (p x)) (sym (mid_at i d short)) (f (at + i) (omega arith) (omega arith))) in
+        let short : i < end - at = omega (arith, il, long_mid) in subst (λ (x : X). P (p x)) (sym (mid_at i d short))
+        (f (at + i) (omega arith) (omega arith))) in
         let short : k < length ys = omega (arith, l, long_ys) in
         subst P (get_or-map p ys k d (p d) short)
         (All-permutation P (map p mid) (map p ys) moved (All-map P p mid all) k (p d) (omega (arith, short, length-map ys p)))
@@ -132,7 +122,8 @@ module _ {X : Type 0} (p : X → ℕ) (lo : ℕ → ℕ → Bool) where
       rest =
           let here : at + (end - at) ≡ end = omega arith in
           drop-put_mid at (end - at) xs ys end (omega arith) (omega arith) long_ys
-          ∙ ap (λ (i : ℕ). drop i xs) (sym here) ∙ sym (drop-drop (end - at) at xs) ∙ ap (drop (end - at)) h.rest ∙ drop-drop (end - at) at xs0 ∙ ap (λ (i : ℕ). drop i xs0) here;
+          ∙ ap (λ (i : ℕ). drop i xs) (sym here) ∙ sym (drop-drop (end - at) at xs) ∙ ap (drop (end - at)) h.rest
+          ∙ drop-drop (end - at) at xs0 ∙ ap (λ (i : ℕ). drop i xs0) here;
       rises = rises;
       over = over;
     }

@@ -1,5 +1,7 @@
 -- The pairs of entries, sorted by their names, are the pairs in byte order.
-use Rattle.std.proofs.Common.{◌≡◌, ℕ, ◌+◌, ◌<◌, Bool, true, false, cond, ◌&&◌, T, List, [], ◌∷◌, ◌++◌, map, drop, get_or, slice_get, length, Some, Ordering, Less, Equal, Greater, nat_eq, refl, sym, ap, subst, ◌∙◌, arith}
+use Rattle.std.proofs.Common.{◌≡◌, ℕ, ◌+◌, ◌<◌, Bool, true, false, cond, ◌&&◌, T, List, [], ◌∷◌, ◌++◌, map, drop}
+use Rattle.std.proofs.Common.{get_or, slice_get, length, Some, Ordering, Less, Equal, Greater, nat_eq, refl, sym, ap}
+use Rattle.std.proofs.Common.{subst, ◌∙◌, arith}
 use Rattle.std.specs.List.{All, AllByRecursion, IsDistinct, range_with_len}
 use Rattle.std.specs.List.Sorted.{IsSortedBy, IsPermutation, IsStrictlySortedBy}
 use Rattle.std.specs.Ordering.{is_lt, is_eq, ordering_reverse, eq_by_cmp}
@@ -25,7 +27,8 @@ unfolding IsDistinct
 distinct_names [] h = tt
 distinct_names (e ∷ es) h = (each es h.0, distinct_names es h.1)
   where
-    each : (fs : List Entry) → AllByRecursion (λ y. same_key e.0 y ≡ false) (keys_of fs) → AllByRecursion (λ y. pointwise nat_eq e.0 y ≡ false) (keys_of (map pair_of fs))
+    each : (fs : List Entry) → AllByRecursion (λ y. same_key e.0 y ≡ false) (keys_of fs)
+        → AllByRecursion (λ y. pointwise nat_eq e.0 y ≡ false) (keys_of (map pair_of fs))
     each [] h = tt
     each (f ∷ fs) h = (h.0, each fs h.1)
 
@@ -41,7 +44,8 @@ strictly ns up apart =
     sorted_from_all_adjacent nat_list_cmp_total ns [] (λ k lt.
     let x = get_or ns k [] in
     let y = get_or ns (k + 1) [] in
-    let differ : eq_by_cmp byte_order y x ≡ false = sym (texts_ties y x) ∙ nat_list_eq_equiv.symm y x ∙ apart_from_distinct (pointwise nat_eq) ns k (k + 1) [] apart (omega arith) lt in
+    let differ : eq_by_cmp byte_order y x ≡ false = sym (texts_ties y x) ∙ nat_list_eq_equiv.symm y x
+    ∙ apart_from_distinct (pointwise nat_eq) ns k (k + 1) [] apart (omega arith) lt in
     nat_list_cmp_total.antisymm x y ∙ rising (byte_order y x) (up k [] (omega arith) lt) differ)
 
 both : (a b : Bool) → T a → T b → T (a && b)
@@ -77,10 +81,13 @@ sorted_names (p ∷ ps) up k d low lt =
     (λ j. is_lt (byte_order (get_or-map name (p ∷ ps) (k + 1) p d within j) (get_or-map name (p ∷ ps) k p d (omega arith) j))) ∙ up k p low within
 
 -- the pairs of the entries, sorted by their names
-pub sorted_in_byte_order : (es : List Entry) (given moved : Pairs) → given ≡ map pair_of es → IsDistinct (pointwise nat_eq) (keys_of given) → IsPermutation given moved → IsSortedBy (λ x y. is_lt (byte_order x.0 y.0)) moved
+pub sorted_in_byte_order : (es : List Entry) (given moved : Pairs) → given ≡ map pair_of es
+    → IsDistinct (pointwise nat_eq) (keys_of given) → IsPermutation given moved
+    → IsSortedBy (λ x y. is_lt (byte_order x.0 y.0)) moved
     → moved ≡ in_order es
 sorted_in_byte_order es given moved is apart moves up =
-    let apart_moved = IsDistinct-IsPermutation (pointwise nat_eq) nat_list_eq_equiv.symm (keys_of given) (keys_of moved) (IsPermutation-map (λ (p : Pair). p.0) given moved moves) apart in
+    let apart_moved = IsDistinct-IsPermutation (pointwise nat_eq) nat_list_eq_equiv.symm (keys_of given) (keys_of moved)
+    (IsPermutation-map (λ (p : Pair). p.0) given moved moves) apart in
     same_entries byte_order nat_list_cmp_total byte_order-IsAntisymmetric moved (in_order es)
     (rising_pairs moved (strictly (keys_of moved) (sorted_names moved up) apart_moved)) (sorted_in_order es)
     (λ q. find_is_lookup q moved ∙ lookup_permutation nat_list_eq_equiv given moved moves apart_moved (pointwise nat_eq q) (nat_list_eq_equiv.congr q)
@@ -103,7 +110,8 @@ module _ {X : Type 0} (p : X → ℕ) (es : List Entry) (xs : List X) (moves : I
   sorted_by_places apart up =
       sorted_in_byte_order es (map (pair_at es) (range_with_len 0 (length es))) (map (λ x. pair_at es (p x)) xs) (pairs_at es)
       (subst (λ (ps : Pairs). IsDistinct (pointwise nat_eq) (keys_of ps)) (sym (pairs_at es)) (distinct_names es apart))
-      (subst (IsPermutation (map (pair_at es) (range_with_len 0 (length es)))) (composed xs) (IsPermutation-map (pair_at es) (range_with_len 0 (length es)) (map p xs) moves))
+      (subst (IsPermutation (map (pair_at es) (range_with_len 0 (length es)))) (composed xs)
+      (IsPermutation-map (pair_at es) (range_with_len 0 (length es)) (map p xs) moves))
       (sorted xs up)
     where
       composed : (ys : List X) → map (pair_at es) (map p ys) ≡ map (λ x. pair_at es (p x)) ys
@@ -118,7 +126,8 @@ module _ {X : Type 0} (p : X → ℕ) (es : List Entry) (xs : List X) (moves : I
           (λ j. is_lt (byte_order (get_or-map pair (y ∷ ys) (k + 1) y d within j).0 (get_or-map pair (y ∷ ys) k y d (omega arith) j).0)) ∙ rises k y low within
 
 -- one more pair, of the entry at the place of the next element
-pub pair_more : {X : Type 0} (p : X → ℕ) (es : List Entry) (xs : List X) (i : ℕ) (d : X) (done now : Pairs) (e : Entry) → i < length xs → slice_get es (p (get_or xs i d)) ≡ Some e
+pub pair_more : {X : Type 0} (p : X → ℕ) (es : List Entry) (xs : List X) (i : ℕ) (d : X) (done now : Pairs) (e : Entry)
+    → i < length xs → slice_get es (p (get_or xs i d)) ≡ Some e
     → now ≡ done ++ (e.0, e.1) ∷ [] → done ++ map (λ x. pair_at es (p x)) (drop i xs) ≡ map (λ x. pair_at es (p x)) xs
     → now ++ map (λ x. pair_at es (p x)) (drop (i + 1) xs) ≡ map (λ x. pair_at es (p x)) xs
 pair_more p es xs i d done now e l here is all =

@@ -17,8 +17,10 @@ returns-in_err-extend_from_slice-in-Some-clause-err c =
     let es = c.args.texts.now.entries in
     let fs = (c.get_mut.follows.lender c.extend_from_slice.new.self).entries in
     let found : Some c.in-Some.held.now ≡ lookup (is_at (int_cmp n)) es = rw (to_z-of_z w32 n c.ranges.number) at c.in-Some.ensures.value in
-    let written : fs ≡ set_value (is_at (int_cmp n)) es c.extend_from_slice.new.self = rw (to_z-of_z w32 n c.ranges.number) at (c.get_mut.follows.holds c.extend_from_slice.new.self).0 in
-    let kept = append_refused n c.args.text.now es fs c.in-Some.held.now c.extend_from_slice.new.self found written c.in_err-extend_from_slice-in-Some.ensures.items in
+    let written : fs ≡ set_value (is_at (int_cmp n)) es c.extend_from_slice.new.self =
+    rw (to_z-of_z w32 n c.ranges.number) at (c.get_mut.follows.holds c.extend_from_slice.new.self).0 in
+    let kept = append_refused n c.args.text.now es fs c.in-Some.held.now c.extend_from_slice.new.self found written
+    c.in_err-extend_from_slice-in-Some.ensures.items in
     search (rules, kept)
 
 -- the text grew
@@ -28,8 +30,10 @@ returns-in_ok-extend_from_slice-in-Some-clause-ok c =
     let es = c.args.texts.now.entries in
     let fs = (c.get_mut.follows.lender c.extend_from_slice.new.self).entries in
     let found : Some c.in-Some.held.now ≡ lookup (is_at (int_cmp n)) es = rw (to_z-of_z w32 n c.ranges.number) at c.in-Some.ensures.value in
-    let written : fs ≡ set_value (is_at (int_cmp n)) es c.extend_from_slice.new.self = rw (to_z-of_z w32 n c.ranges.number) at (c.get_mut.follows.holds c.extend_from_slice.new.self).0 in
-    append_found n c.args.text.now es fs c.in-Some.held.now c.extend_from_slice.new.self c.requires found written c.in_ok-extend_from_slice-in-Some.ensures.items
+    let written : fs ≡ set_value (is_at (int_cmp n)) es c.extend_from_slice.new.self =
+    rw (to_z-of_z w32 n c.ranges.number) at (c.get_mut.follows.holds c.extend_from_slice.new.self).0 in
+    append_found n c.args.text.now es fs c.in-Some.held.now c.extend_from_slice.new.self c.requires found written
+    c.in_ok-extend_from_slice-in-Some.ensures.items
 
 pub returns-in_ok-extend_from_slice-in-Some-clause-sized : goal.returns-in_ok-extend_from_slice-in-Some-clause-sized
 returns-in_ok-extend_from_slice-in-Some-clause-sized c =
@@ -37,7 +41,8 @@ returns-in_ok-extend_from_slice-in-Some-clause-sized c =
     let es = c.args.texts.now.entries in
     let found : Some c.in-Some.held.now ≡ lookup (is_at (int_cmp n)) es = rw (to_z-of_z w32 n c.ranges.number) at c.in-Some.ensures.value in
     let items : text_at (texts_of es) n ++ c.args.text.now ≡ c.extend_from_slice.new.self.items =
-    ap (λ (bytes : List ℕ). bytes ++ c.args.text.now) (text_found n c.args.text.now es es c.in-Some.held.now found) ∙ sym c.in_ok-extend_from_slice-in-Some.ensures.items in
+    ap (λ (bytes : List ℕ). bytes ++ c.args.text.now) (text_found n c.args.text.now es es c.in-Some.held.now found)
+    ∙ sym c.in_ok-extend_from_slice-in-Some.ensures.items in
     rw items (search rules)
 
 -- the text is the first of its number
@@ -47,7 +52,9 @@ returns-in_ok-insert-in-None-clause-ok c =
     let es = c.args.texts.now.entries in
     let found : ◌≡◌ {A = Option (Vec ℕ Global)} None (lookup (is_at (int_cmp n)) es) = rw (to_z-of_z w32 n c.ranges.number) at c.in-None.ensures.value in
     let written : c.insert.new.self.entries ≡ insert_entry int_cmp es n c.in_ok-held-in-None.held =
-    subst (λ (m : BTreeMap ℤ (Vec ℕ Global)). c.insert.new.self.entries ≡ insert_entry int_cmp m.entries n c.in_ok-held-in-None.held) c.get_mut.follows.holds-at-none (rw (to_z-of_z w32 n c.ranges.number) at c.in_ok-insert-in-None.ensures.entries) in
+    subst (λ (m : BTreeMap ℤ (Vec ℕ Global)). c.insert.new.self.entries
+    ≡ insert_entry int_cmp m.entries n c.in_ok-held-in-None.held) c.get_mut.follows.holds-at-none
+    (rw (to_z-of_z w32 n c.ranges.number) at c.in_ok-insert-in-None.ensures.entries) in
     append_missing n c.args.text.now es c.insert.new.self.entries c.in_ok-held-in-None.held found written c.in_ok-held-in-None.ensures.items
 
 pub returns-in_ok-insert-in-None-clause-sized : goal.returns-in_ok-insert-in-None-clause-sized

@@ -13,7 +13,9 @@ returns-then-not-contains_key-clause-ok c =
     let ds = texts_of c.args.texts.now.entries in
     let missing = rw c.if-not-contains_key.true at (rw (to_z-of_z w32 c.args.to c.ranges.to) at c.contains_key.ensures) in
     let ok = rw (to_z-of_z w32 c.args.to c.ranges.to) at (rw (to_z-of_z w32 c.args.from c.ranges.from) at c.place_in.ensures.ok) in
-    placed_alone c.place_in.result c.args.to (text_at ds c.args.to) (text_at ds c.args.from) (without_text ds c.args.from) (texts_of c.place_in.new.texts.entries) (none_there c.args.to c.args.texts.now.entries missing) ok
+    placed_alone c.place_in.result c.args.to (text_at ds c.args.to) (text_at ds c.args.from)
+    (without_text ds c.args.from) (texts_of c.place_in.new.texts.entries)
+    (none_there c.args.to c.args.texts.now.entries missing) ok
 
 pub returns-then-not-contains_key-clause-sized : goal.returns-then-not-contains_key-clause-sized
 returns-then-not-contains_key-clause-sized c =
@@ -41,7 +43,8 @@ take_in-empty-requires c =
     let fs = texts_of c.append_in.new.texts.entries in
     let taken : c.deref.result.now ≡ text_at ds n = c.deref.ensures.value ∙ (rw (to_z-of_z w32 n c.ranges.from) at c.swap_in.ensures.text) in
     let added = rw (to_z-of_z w32 c.args.to c.ranges.to) at c.in-Ok.ensures.ok in
-    added_sorted n c.args.to ds c.requires.sorted c.requires.apart c.requires.some es c.new-text.result.items c.new-text.ensures.items written fs c.deref.result.now taken added
+    added_sorted n c.args.to ds c.requires.sorted c.requires.apart c.requires.some es c.new-text.result.items
+    c.new-text.ensures.items written fs c.deref.result.now taken added
 
 pub returns-in-Ok-clause-ok : goal.returns-in-Ok-clause-ok
 returns-in-Ok-clause-ok c =
@@ -53,7 +56,8 @@ returns-in-Ok-clause-ok c =
     let taken : c.deref.result.now ≡ text_at ds n = c.deref.ensures.value ∙ (rw (to_z-of_z w32 n c.ranges.from) at c.swap_in.ensures.text) in
     let added = rw (to_z-of_z w32 c.args.to c.ranges.to) at c.in-Ok.ensures.ok in
     let left = rw (to_z-of_z w32 n c.ranges.from) at c.take_in-empty.ensures.rest in
-    is_joined n c.args.to ds c.requires.sorted c.requires.apart c.requires.some es c.new-text.result.items c.new-text.ensures.items written fs c.deref.result.now taken added (texts_of c.take_in-empty.new.texts.entries) left
+    is_joined n c.args.to ds c.requires.sorted c.requires.apart c.requires.some es c.new-text.result.items
+    c.new-text.ensures.items written fs c.deref.result.now taken added (texts_of c.take_in-empty.new.texts.entries) left
 
 pub returns-in-Ok-clause-sized : goal.returns-in-Ok-clause-sized
 returns-in-Ok-clause-sized c =
@@ -65,7 +69,8 @@ returns-in-Ok-clause-sized c =
     let taken : c.deref.result.now ≡ text_at ds n = c.deref.ensures.value ∙ (rw (to_z-of_z w32 n c.ranges.from) at c.swap_in.ensures.text) in
     let added = rw (to_z-of_z w32 c.args.to c.ranges.to) at c.in-Ok.ensures.ok in
     let sized = rw (to_z-of_z w32 c.args.to c.ranges.to) at c.in-Ok.ensures.sized in
-    let text = added_text n c.args.to ds c.requires.sorted c.requires.apart c.requires.some es c.new-text.result.items c.new-text.ensures.items written fs c.deref.result.now taken added in
+    let text = added_text n c.args.to ds c.requires.sorted c.requires.apart c.requires.some es c.new-text.result.items
+    c.new-text.ensures.items written fs c.deref.result.now taken added in
     rw (sym text) sized
 
 -- a text that was refused is put back
@@ -75,7 +80,8 @@ swap_in-requires-in-Err-clause-sorted c =
     let ds = texts_of c.args.texts.now.entries in
     let es = texts_of c.swap_in.new.texts.entries in
     let written = rw (to_z-of_z w32 n c.ranges.from) at c.swap_in.ensures.texts in
-    refused_sorted n c.args.to ds c.requires.sorted c.requires.apart c.requires.some es c.new-text.result.items c.new-text.ensures.items written (texts_of c.append_in.new.texts.entries) c.in-Err.ensures.err
+    refused_sorted n c.args.to ds c.requires.sorted c.requires.apart c.requires.some es c.new-text.result.items
+    c.new-text.ensures.items written (texts_of c.append_in.new.texts.entries) c.in-Err.ensures.err
 
 pub swap_in-requires-in-Err-clause-there : goal.swap_in-requires-in-Err-clause-there
 swap_in-requires-in-Err-clause-there c =
@@ -83,7 +89,8 @@ swap_in-requires-in-Err-clause-there c =
     let ds = texts_of c.args.texts.now.entries in
     let es = texts_of c.swap_in.new.texts.entries in
     let written = rw (to_z-of_z w32 n c.ranges.from) at c.swap_in.ensures.texts in
-    let there = is_found_again n c.args.to ds c.requires.sorted c.requires.apart c.requires.some es c.new-text.result.items c.new-text.ensures.items written (texts_of c.append_in.new.texts.entries) c.in-Err.ensures.err in
+    let there = is_found_again n c.args.to ds c.requires.sorted c.requires.apart c.requires.some es
+    c.new-text.result.items c.new-text.ensures.items written (texts_of c.append_in.new.texts.entries) c.in-Err.ensures.err in
     rw (to_z-of_z w32 n c.ranges.from) there
 
 pub returns-clause-err : goal.returns-clause-err
@@ -94,5 +101,6 @@ returns-clause-err c =
     let written = rw (to_z-of_z w32 n c.ranges.from) at c.swap_in.ensures.texts in
     let taken = rw (to_z-of_z w32 n c.ranges.from) at c.swap_in.ensures.text in
     let back = rw (to_z-of_z w32 n c.ranges.from) at c.swap_in-in-Err.ensures.texts in
-    is_back n c.args.to ds c.requires.sorted c.requires.apart c.requires.some es c.new-text.result.items c.new-text.ensures.items written (texts_of c.append_in.new.texts.entries) c.in-Err.ensures.err
+    is_back n c.args.to ds c.requires.sorted c.requires.apart c.requires.some es c.new-text.result.items
+    c.new-text.ensures.items written (texts_of c.append_in.new.texts.entries) c.in-Err.ensures.err
     (texts_of c.swap_in-in-Err.new.texts.entries) c.swap_in.new.text.items taken back

@@ -25,10 +25,13 @@ loop-entry-preserved c =
             let here : slice_get es place ≡ Some e = sym (w.in-Some.ensures.entry ∙ ap (λ (l : List Entry). slice_get l place) c.as_slice.ensures.entries) in
             let done = c.loop-entry.named.items in
             pair_more (λ (r : Ranked). r.place) es items i none done c.match-get_index.named.items e low here
-            ((λ j. (w.named-is j).items) ∙ pushed (w.new.result ∷ []) refl w.in_ok-push.was w.push.ensures.items ∙ ap (λ (q : Pair). done ++ q ∷ []) w.new.ensures)
+            ((λ j. (w.named-is j).items) ∙ pushed (w.new.result ∷ []) refl w.in_ok-push.was w.push.ensures.items
+            ∙ ap (λ (q : Pair). done ++ q ∷ []) w.new.ensures)
             c.loop-entry.invariant.pairs
         | in_default w ↦
-            let found : false ≡ true = subst IsSome w.in_default.is (c.get_index.ensures.found.1 (subst (λ (l : List Entry). place < length l) (sym c.as_slice.ensures.entries) within)) in
+            let found : false ≡ true = subst IsSome w.in_default.is
+            (c.get_index.ensures.found.1 (subst (λ (l : List Entry). place < length l)
+            (sym c.as_slice.ensures.entries) within)) in
             absurd cc
       ];
     }

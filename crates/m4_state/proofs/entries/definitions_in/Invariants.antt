@@ -7,5 +7,6 @@ use Rattle.m4_state.proofs.entries.definitions_in.Given as goal
 abbrev pub invariant-loop-entry : goal.invariant-loop-entry
 invariant-loop-entry l = record {
   within : All (λ r. r.place < length l.entries.entries) l.entry-items;
-  pairs : l.named.items ++ map (λ r. pair_at l.entries.entries r.place) (drop l.entry-index l.entry-items) ≡ map (λ r. pair_at l.entries.entries r.place) l.entry-items;
+  pairs : l.named.items ++ map (λ r. pair_at l.entries.entries r.place) (drop l.entry-index l.entry-items)
+      ≡ map (λ r. pair_at l.entries.entries r.place) l.entry-items;
 }

@@ -13,7 +13,8 @@ returns c =
     let i : ℕ = (c.args.hint + 18446744073709551615) % 18446744073709551616 in
     let key : c.in-Some.key.now ≡ name = sym c.as_slice-2.ensures.value ∙ (bytes_decides _ name).0 (sym c.are_equal.ensures ∙ c.if-are_equal.true) in
     let here : slice_get es i ≡ Some (name, c.in-Some.field-0-1.now) =
-    sym (c.in-Some.ensures.entry ∙ ap (λ (l : List Entry). slice_get l i) c.as_slice.ensures.entries) ∙ ap (λ (k : List ℕ). Some (k, c.in-Some.field-0-1.now)) key in
+    sym (c.in-Some.ensures.entry ∙ ap (λ (l : List Entry). slice_get l i) c.as_slice.ensures.entries)
+    ∙ ap (λ (k : List ℕ). Some (k, c.in-Some.field-0-1.now)) key in
     record {
       index = sym (place_of_key c.args.entries.now name i c.in-Some.field-0-1.now c.as_slice.ensures.unique here);
       within = slice_get_within es i _ here;

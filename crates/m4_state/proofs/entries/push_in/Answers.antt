@@ -10,7 +10,8 @@ use Rattle.m4_state.proofs.entries.push_in.Goals as goal
 -- a change that was refused left the stack's definitions as they were
 pub returns-in_err-push-in-Some-clause-err : goal.returns-in_err-push-in-Some-clause-err
 returns-in_err-push-in-Some-clause-err c =
-    let kept = same_in_order c.args.entries.now.entries c.in-Some.i c.index_mut.result.now c.push.new.self c.index_mut.ensures.value c.in_err-push-in-Some.ensures.err in
+    let kept = same_in_order c.args.entries.now.entries c.in-Some.i c.index_mut.result.now c.push.new.self
+    c.index_mut.ensures.value c.in_err-push-in-Some.ensures.err in
     search (rules, kept)
 
 -- the name was there
@@ -18,16 +19,23 @@ pub returns-in_ok-push-in-Some-clause-ok : goal.returns-in_ok-push-in-Some-claus
 returns-in_ok-push-in-Some-clause-ok c =
     let es = c.args.entries.now.entries in
     let found = sym c.in-Some.is ∙ c.requires.place.index in
-    let old : stack_at (in_order es) c.args.name.now ≡ c.index_mut.result.now = stack_at_place c.args.entries.now c.args.name.now c.in-Some.i c.index_mut.result.now (sym found) c.index_mut.ensures.value in
-    write_in_order c.args.entries.now c.args.name.now c.in-Some.i c.index_mut.result.now (sym found) c.index_mut.ensures.value c.requires.place.unique c.push.new.self
-    ∙ ap (λ (xs : List Def). put byte_order c.args.name.now xs (in_order es)) (c.in_ok-push-in-Some.ensures.ok ∙ ap (λ (xs : List Def). xs ++ c.args.def ∷ []) (sym old))
+    let old : stack_at (in_order es) c.args.name.now ≡ c.index_mut.result.now =
+    stack_at_place c.args.entries.now c.args.name.now c.in-Some.i c.index_mut.result.now (sym found)
+    c.index_mut.ensures.value in
+    write_in_order c.args.entries.now c.args.name.now c.in-Some.i c.index_mut.result.now (sym found)
+    c.index_mut.ensures.value c.requires.place.unique c.push.new.self
+    ∙ ap (λ (xs : List Def). put byte_order c.args.name.now xs (in_order es))
+    (c.in_ok-push-in-Some.ensures.ok ∙ ap (λ (xs : List Def). xs ++ c.args.def ∷ []) (sym old))
 
 pub returns-in_ok-push-in-Some-clause-table : goal.returns-in_ok-push-in-Some-clause-table
-returns-in_ok-push-in-Some-clause-table c = subst IsTable (sym (returns-in_ok-push-in-Some-clause-ok c)) (IsTable-push _ c.args.name.now c.args.def c.requires.table c.requires.definition)
+returns-in_ok-push-in-Some-clause-table c =
+    subst IsTable (sym (returns-in_ok-push-in-Some-clause-ok c))
+    (IsTable-push _ c.args.name.now c.args.def c.requires.table c.requires.definition)
 
 pub returns-in_ok-push-in-Some-clause-sized : goal.returns-in_ok-push-in-Some-clause-sized
 returns-in_ok-push-in-Some-clause-sized c =
-    subst IsSizedTable (sym (returns-in_ok-push-in-Some-clause-ok c)) (IsSizedTable-push _ c.args.name.now c.args.def c.requires.sized (omega arith) c.len-len.ensures.sized)
+    subst IsSizedTable (sym (returns-in_ok-push-in-Some-clause-ok c))
+    (IsSizedTable-push _ c.args.name.now c.args.def c.requires.sized (omega arith) c.len-len.ensures.sized)
 
 -- the name is new
 pub returns-in_ok-insert_in-in-None-clause-ok : goal.returns-in_ok-insert_in-in-None-clause-ok
@@ -35,11 +43,16 @@ returns-in_ok-insert_in-in-None-clause-ok c =
     let es = c.args.entries.now.entries in
     let none = sym c.in-None.is ∙ c.requires.place.index in
     let old : stack_at (in_order es) c.args.name.now ≡ [] = stack_at_no_place c.args.entries.now c.args.name.now (sym none) in
-    c.in_ok-insert_in-in-None.ensures.ok ∙ ap (λ (xs : List Def). put byte_order c.args.name.now xs (in_order es)) (ap (λ (xs : List Def). xs ++ c.args.def ∷ []) (sym old))
+    c.in_ok-insert_in-in-None.ensures.ok
+    ∙ ap (λ (xs : List Def). put byte_order c.args.name.now xs (in_order es))
+    (ap (λ (xs : List Def). xs ++ c.args.def ∷ []) (sym old))
 
 pub returns-in_ok-insert_in-in-None-clause-table : goal.returns-in_ok-insert_in-in-None-clause-table
-returns-in_ok-insert_in-in-None-clause-table c = subst IsTable (sym (returns-in_ok-insert_in-in-None-clause-ok c)) (IsTable-push _ c.args.name.now c.args.def c.requires.table c.requires.definition)
+returns-in_ok-insert_in-in-None-clause-table c =
+    subst IsTable (sym (returns-in_ok-insert_in-in-None-clause-ok c))
+    (IsTable-push _ c.args.name.now c.args.def c.requires.table c.requires.definition)
 
 pub returns-in_ok-insert_in-in-None-clause-sized : goal.returns-in_ok-insert_in-in-None-clause-sized
 returns-in_ok-insert_in-in-None-clause-sized c =
-    subst IsSizedTable (sym (returns-in_ok-insert_in-in-None-clause-ok c)) (IsSizedTable-push _ c.args.name.now c.args.def c.requires.sized (omega arith) c.len-len.ensures.sized)
+    subst IsSizedTable (sym (returns-in_ok-insert_in-in-None-clause-ok c))
+    (IsSizedTable-push _ c.args.name.now c.args.def c.requires.sized (omega arith) c.len-len.ensures.sized)

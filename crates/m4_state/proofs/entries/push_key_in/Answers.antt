@@ -24,7 +24,8 @@ returns-in_ok-push-in-Occupied-clause-ok c =
     let old = c.args.entries.now.entries in
     let key = c.args.key in
     let updates = c.in_ok-entry.ensures.update.0 stack in
-    let found : lookup (has_bytes key) old ≡ Some c.into_mut.result.now = sym c.in_ok-entry.ensures.value ∙ ap entry_value c.in-Occupied.is ∙ c.into_mut.ensures.value in
+    let found : lookup (has_bytes key) old ≡ Some c.into_mut.result.now = sym c.in_ok-entry.ensures.value
+    ∙ ap entry_value c.in-Occupied.is ∙ c.into_mut.ensures.value in
     let more = c.in_ok-push-in-Occupied.ensures.ok ∙ ap (λ (xs : List Def). xs ++ c.args.def ∷ []) (sym (stack_at_found key old _ found)) in
     ◌∙◌ {b = in_order (map_with_value e stack).entries} (search rules)
     (put_in_order key old (map_with_value e stack).entries stack updates.3 updates.1

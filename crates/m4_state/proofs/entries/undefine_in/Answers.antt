@@ -6,7 +6,8 @@ use Rattle.m4_state.proofs.entries.undefine_in.Goals as goal
 
 -- what the name's removal leaves
 pub returns-clause-value : goal.returns-clause-value
-returns-clause-value c = without_in_order c.args.name.now c.args.entries.now.entries c.swap_remove-taken.new.self.entries c.swap_remove-taken.ensures.updates.3 c.swap_remove-taken.ensures.updates.1
+returns-clause-value c = without_in_order c.args.name.now c.args.entries.now.entries
+    c.swap_remove-taken.new.self.entries c.swap_remove-taken.ensures.updates.3 c.swap_remove-taken.ensures.updates.1
 
 pub returns-clause-table : goal.returns-clause-table
 returns-clause-table c = subst IsTable (sym (returns-clause-value c)) (IsTable-without _ c.args.name.now c.requires.table)

@@ -19,6 +19,7 @@ loop-k-preserved c =
       within = omega (arith, length-set run k new, c.loop-k-test.true);
       long = length-set run k new ∙ c.loop-k.invariant.long;
       places = map-set place run k new ∙ sym (map-set place run k was) ∙ ap (map place) (set-get_or run k _) ∙ c.loop-k.invariant.places;
-      ranks = AllWithin-more_set run k new (omega (arith, c.loop-k-test.true)) (λ (r : Ranked). IsRank (drop c.args.from (name_at es r.place)) r.rank) c.loop-k.invariant.ranks
+      ranks = AllWithin-more_set run k new (omega (arith, c.loop-k-test.true))
+          (λ (r : Ranked). IsRank (drop c.args.from (name_at es r.place)) r.rank) c.loop-k.invariant.ranks
           (subst (λ (name : List ℕ). IsRank (drop c.args.from name) c.rank_of-rank.result) c.name_of.ensures c.rank_of-rank.ensures);
     }

@@ -11,12 +11,15 @@ no_piece = record { ref_ptr = (0, 0); now = [] }
 pub returns-in_err-write_all-clause-puts : goal.returns-in_err-write_all-clause-puts
 unfolding no_piece
 returns-in_err-write_all-clause-puts g c =
-    let left = rw (flat_map-drop (λ (p : Bor (List ℕ)). p.now) c.args.pieces.now c.loop-piece.piece-index no_piece c.loop-piece-test.true) at c.loop-piece.invariant.0 in
-    Puts-refused c.from_residual.result _ _ _ c.from_residual.ensures.0 (HasPut-cut _ _ _ left c.in_err-write_all.ensures.puts.0 c.in_err-write_all.ensures.puts.1)
+    let left = rw (flat_map-drop (λ (p : Bor (List ℕ)). p.now) c.args.pieces.now c.loop-piece.piece-index no_piece
+    c.loop-piece-test.true) at c.loop-piece.invariant.0 in
+    Puts-refused c.from_residual.result _ _ _ c.from_residual.ensures.0
+    (HasPut-cut _ _ _ left c.in_err-write_all.ensures.puts.0 c.in_err-write_all.ensures.puts.1)
 
 -- a piece was put
 pub loop-piece-preserved : goal.loop-piece-preserved
 unfolding no_piece
 loop-piece-preserved g c =
-    let left = rw (flat_map-drop (λ (p : Bor (List ℕ)). p.now) c.args.pieces.now c.loop-piece.piece-index no_piece c.loop-piece-test.true) at c.loop-piece.invariant.0 in
+    let left = rw (flat_map-drop (λ (p : Bor (List ℕ)). p.now) c.args.pieces.now c.loop-piece.piece-index no_piece
+    c.loop-piece-test.true) at c.loop-piece.invariant.0 in
     (HasPut-put _ _ _ left c.in_ok-write_all.ensures.puts, c.in_ok-write_all.ensures.counted ∙ c.loop-piece.invariant.1)

@@ -1,5 +1,6 @@
 -- The first builtin of those that are left bears the name, or those after it do.
-use Rattle.std.proofs.Common.{◌≡◌, ℕ, suc, ◌+◌, ◌<◌, ◌≤◌, length, get_or, drop, drop-cons, drop_of_length-le, add-one, refl, sym, ap, ◌∙◌, Bool, true, false, cond, List, [], ◌∷◌, Option, Some, None, arith}
+use Rattle.std.proofs.Common.{◌≡◌, ℕ, suc, ◌+◌, ◌<◌, ◌≤◌, length, get_or, drop, drop-cons, drop_of_length-le, add-one}
+use Rattle.std.proofs.Common.{refl, sym, ap, ◌∙◌, Bool, true, false, cond, List, [], ◌∷◌, Option, Some, None, arith}
 use Rattle.std.specs.Prelude.{find, filter, ◌==◌}
 use Rattle.std.specs.Str.{bytes_eq}
 use Rattle.std.specs.Cmp.Lexicographic.{bytes_decides}
@@ -55,13 +56,16 @@ loop-builtin-init c =
 
 pub returns-then-eq : goal.returns-then-eq
 returns-then-eq c =
-    here c.of_length-builtin-items.result.now c.args.name.now c.loop-builtin.builtin-index (builtin_named c.args.name.now) c.loop-builtin.invariant c.loop-builtin-test.true
+    here c.of_length-builtin-items.result.now c.args.name.now c.loop-builtin.builtin-index
+    (builtin_named c.args.name.now) c.loop-builtin.invariant c.loop-builtin-test.true
     (c.if-eq.ensures ∙ ap (λ (x : List ℕ). bytes_eq x c.args.name.now) c.name.ensures)
 
 pub loop-builtin-preserved : goal.loop-builtin-preserved
 loop-builtin-preserved c =
-    after c.of_length-builtin-items.result.now c.args.name.now c.loop-builtin.builtin-index (builtin_named c.args.name.now) c.loop-builtin.invariant c.loop-builtin-test.true
+    after c.of_length-builtin-items.result.now c.args.name.now c.loop-builtin.builtin-index
+    (builtin_named c.args.name.now) c.loop-builtin.invariant c.loop-builtin-test.true
     (c.if-eq.ensures ∙ ap (λ (x : List ℕ). bytes_eq x c.args.name.now) c.name.ensures)
 
 pub returns : goal.returns
-returns c = nowhere c.of_length-builtin-items.result.now c.args.name.now c.loop-builtin.builtin-index (builtin_named c.args.name.now) c.loop-builtin.invariant c.loop-builtin-test.false
+returns c = nowhere c.of_length-builtin-items.result.now c.args.name.now c.loop-builtin.builtin-index
+    (builtin_named c.args.name.now) c.loop-builtin.invariant c.loop-builtin-test.false

@@ -11,7 +11,8 @@ valid c =
     let ok = rw (to_z-of_z w32 c.args.number c.ranges.number) at c.append_in.ensures.ok in
     let sized = rw (to_z-of_z w32 c.args.number c.ranges.number) at c.append_in.ensures.sized in
     valid_after_append c.append_in.result c.args.number c.args.text.now (texts_of c.self.inside.texts.entries) (texts_of c.append_in.new.texts.entries)
-    c.requires c.ranges.number (some_bytes c.args.text.now c.is_empty.result c.is_empty.ensures c.if-is_empty.false) ok c.append_in.ensures.err sized c.self.invariant
+    c.requires c.ranges.number (some_bytes c.args.text.now c.is_empty.result c.is_empty.ensures c.if-is_empty.false) ok
+    c.append_in.ensures.err sized c.self.invariant
 
 pub invariant_of-self : goal.invariant_of-self
 invariant_of-self c = valid c

@@ -11,7 +11,8 @@ use Rattle.m4_state.proofs.MovedText.{valid_after_move, moved_as}
 use Rattle.m4_state.proofs.diversions.Diversions.move_text.Goals as goal
 
 -- a number without text leaves, if it is there
-valid_without : (c : goal.Joined-none) → AreDiversions (texts_of c.take_in-none.new.texts.entries) × AreSizedDiversions (texts_of c.take_in-none.new.texts.entries)
+valid_without : (c : goal.Joined-none) → AreDiversions (texts_of c.take_in-none.new.texts.entries)
+    × AreSizedDiversions (texts_of c.take_in-none.new.texts.entries)
 valid_without c =
     let rest = rw (to_z-of_z w32 c.args.from c.ranges.from) at c.take_in-none.ensures.rest in (
       subst AreDiversions (sym rest) (AreDiversions-without c.args.from _ c.self.invariant.0),
@@ -49,7 +50,9 @@ pub returns-clause-ok : goal.returns-clause-ok
 returns-clause-ok c =
     let ds = texts_of c.self.inside.texts.entries in
     let ok = rw (to_z-of_z w32 c.args.to c.ranges.to) at (rw (to_z-of_z w32 c.args.from c.ranges.from) at c.move_in.ensures.ok) in
-    subst (λ (old : List Diversion). OnOk c.move_in.result (texts_of c.move_in.new.texts.entries ≡ without_text (with_text old c.args.to (text_at old c.args.from)) c.args.from)) c.self.view_is
+    subst (λ (old : List Diversion). OnOk c.move_in.result
+    (texts_of c.move_in.new.texts.entries
+    ≡ without_text (with_text old c.args.to (text_at old c.args.from)) c.args.from)) c.self.view_is
     (moved_as c.move_in.result c.args.from c.args.to ds (texts_of c.move_in.new.texts.entries) c.self.invariant.0.sorted c.requires.apart (some_text c) ok)
 
 pub returns-clause-valid : goal.returns-clause-valid

@@ -17,7 +17,8 @@ returns-in-Some c =
     rw (to_z-of_z w32 c.args.number c.ranges.number) at (c.range-after.ensures.between tt) in
     let first = sym between ∙ c.in-Some.ensures.steps in
     let next : next_after (texts_of es) c.args.number ≡ Some c.in-Some.next.now = next_after-range c.args.number es ∙ ap first_number first in
-    rw (to_z-of_z w32 c.in-Some.next.now (first_fits c.args.number es _ _ c.self.invariant.0.each first)) (sym next ∙ ap (λ (ds : List Diversion). next_after ds c.args.number) c.self.view_is)
+    rw (to_z-of_z w32 c.in-Some.next.now (first_fits c.args.number es _ _ c.self.invariant.0.each first))
+    (sym next ∙ ap (λ (ds : List Diversion). next_after ds c.args.number) c.self.view_is)
 
 -- no entry follows the number
 pub returns-in-None : goal.returns-in-None

@@ -13,7 +13,8 @@ pub returns-in-Some : goal.returns-in-Some
 returns-in-Some c =
     let found : Some c.in-Some.text.now ≡ lookup (is_at (int_cmp c.args.number)) c.self.inside.texts.entries =
     rw (to_z-of_z w32 c.args.number c.ranges.number) at c.in-Some.ensures.value in
-    c.deref.ensures.value ∙ ap bytes_of found ∙ sym (find-texts_of c.args.number c.self.inside.texts.entries) ∙ ap (λ (ds : List Diversion). text_at ds c.args.number) c.self.view_is
+    c.deref.ensures.value ∙ ap bytes_of found ∙ sym (find-texts_of c.args.number c.self.inside.texts.entries)
+    ∙ ap (λ (ds : List Diversion). text_at ds c.args.number) c.self.view_is
 
 -- the map has none
 pub returns-in-None : goal.returns-in-None

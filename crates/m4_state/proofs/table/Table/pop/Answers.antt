@@ -8,5 +8,6 @@ pub invariant_of-self : goal.invariant_of-self
 invariant_of-self c =
     let marks = c.self.inside.marks in (
       (c.pop_in.ensures.table, c.pop_in.ensures.sized),
-      subst (AreMarked marks) (sym c.pop_in.ensures.value) (without_top_marked marks (in_order c.self.inside.entries.entries) c.args.name.now c.self.invariant.1),
+      subst (AreMarked marks) (sym c.pop_in.ensures.value)
+          (without_top_marked marks (in_order c.self.inside.entries.entries) c.args.name.now c.self.invariant.1),
     )

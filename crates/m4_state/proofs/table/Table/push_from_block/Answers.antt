@@ -19,7 +19,8 @@ sizes block strings at middle len is few =
       omega (arith, all, length-drop at block, length-drop middle strings, length-take len (drop middle strings)),
     )
 
-module _ {X E : Type 0} (r : Result X E) (old new : Pairs) (name text : List ℕ) (ok : OnOk r (new ≡ with_push old name (defs.Text text))) (err : OnErr r (new ≡ old)) where
+module _ {X E : Type 0} (r : Result X E) (old new : Pairs) (name text : List ℕ)
+    (ok : OnOk r (new ≡ with_push old name (defs.Text text))) (err : OnErr r (new ≡ old)) where
   -- a text keeps the table in order
   table_kept : IsTable old → IsTable new
   table_kept h =

@@ -17,5 +17,7 @@ invariant_of-self c =
         kept_either IsSizedTable c.push_text_in.result old new c.self.invariant.0.1 c.push_text_in.ensures.sized c.push_text_in.ensures.err,
       ),
       marked_either c.push_text_in.result c.self.inside.marks c.add.new.self old new _ c.add.ensures.stay c.self.invariant.1
-          (put_marked c.add.new.self old name (stack_at old name ++ defs.Text (drop c.args.middle c.args.bytes.now) ∷ []) added) c.push_text_in.ensures.ok c.push_text_in.ensures.err,
+          (put_marked c.add.new.self old name
+          (stack_at old name ++ defs.Text (drop c.args.middle c.args.bytes.now) ∷ []) added)
+          c.push_text_in.ensures.ok c.push_text_in.ensures.err,
     )
