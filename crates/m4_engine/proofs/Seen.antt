@@ -1,6 +1,6 @@
 -- Seen: what was seen of the first token of a text, as a turn takes it.
 use Rattle.std.proofs.Common.{◌≡◌, Some, None, ℕ, Bool, true, false, List, [], ◌∷◌, ◌++◌, append-nil, append_assoc, refl}
-use Rattle.std.proofs.Common.{sym, ap, ◌∙◌, subst, drop, Option, ◌<◌, arith}
+use Rattle.std.proofs.Common.{sym, ap, ◌∙◌, drop, Option, ◌<◌, arith}
 use Rattle.m4_state.specs.declared.definition.Def.{Def}
 use Rattle.m4_input.specs.declared.front.Answer.TheVariants.{Yes}
 use Rattle.std.specs.Prelude.{nat_lt, not, ◌&&◌, length, Result, Ok, Err, IfOk}
@@ -54,8 +54,9 @@ room_refused e h f = by_parts (nat_lt e.calls (e.limits).calls) (is_deep_in e) h
 
 -- a name that is recognised is called, at any place
 abbrev pub recognised_call : (listed : Bool) (s : State) (name : List ℕ) (at : Place) → Recognises listed s name
-    → (c : Call) × IsCalled c s name × (c.place ≡ at) × (listed ≡ false → needs_list c.definition ≡ false)
-recognised_call listed s name at h = (call_of h.0 name at, (h.1, refl, refl), refl, h.2)
+    → (c : Call) × (top_of s name ≡ Some c.definition) × (c ≡ call_of c.definition name at)
+    × (listed ≡ false → needs_list c.definition ≡ false)
+recognised_call listed s name at h = (call_of h.0 name at, h.1, refl, h.2)
 
 -- whether a list follows so many bytes, once these were consumed
 pub list_there : (q c : Delimiters) (p r : Pending) (n : ℕ) (v : Answer) → r ≡ consumed n p → paren_in q c p.may_follow (drop n (text_of p)) ≡ v → paren_at q c r ≡ v
@@ -110,27 +111,22 @@ line_skips e e1 name p q d i room shallow g v =
     (bare_goes q.may_follow e (with_one_call e) e1 c (λ z more. longer z more q) q (Ok turns.SkipsLine) room shallow refl
     (λ z more t o l. called_skips (with_one_call e) e1 c a (longer z more q) refl refl refl g o l) (λ z more. longer z more p))
 
--- the call of a name, once its place is set
-pub called_at : (c d : Call) (at : Place) (s : State) (name : List ℕ) → d ≡ record c { place = at } → IsCalled c s name → IsCalled d s name
-called_at c d at s name h v =
-    subst (λ (k : Call). IsCalled k s name) (sym h) (v.0, v.1, ap (λ (k : Call). let l : Call = record k { place = at } in l) v.2)
-
 -- a call that is made
 pub made_moves : (e e1 : Engine) (c : Call) (listed : Bool) (name : List ℕ) (p q p' : Pending)
     (r : Result Turned TurnFault) → q.definition ≡ None
     → paren_at (e.state).quotes (e.state).comments q ≡ answer_of listed
-    → (listed ≡ false → needs_list c.definition ≡ false) → IsCalled c e.state name → c.place ≡ place_at p
+    → (listed ≡ false → needs_list c.definition ≡ false) → top_of e.state name ≡ Some c.definition
+    → c ≡ call_of c.definition name (place_at p)
     → IfOk r (λ u. (before : Extended)
     → Moves q.may_follow e1 p' u
     (λ z more o l. step (outer_of e.open_calls)
     (call listed c (longer z more q) (here_of o l e (before z more)))))
     → NameMoves q.may_follow e e1 p q p' r name
-made_moves e e1 c listed name p q p' (Ok u) d i j v at k =
+made_moves e e1 c listed name p q p' (Ok u) d i j v same k =
     let f = c.definition in
-    let same : c ≡ call_of f name (place_at p) = v.2 ∙ ap (λ (x : List ℕ). call_of f x c.place) v.1 ∙ ap (call_of f name) at in
-    moves_by q.may_follow e1 p' u _ _ (λ z more t o l. named e f name listed (longer z more q) (longer z more p) (place_at p) o l (sym v.0) (paren_longer (e.state).quotes (e.state).comments q listed z more d i t) j refl
+    moves_by q.may_follow e1 p' u _ _ (λ z more t o l. named e f name listed (longer z more q) (longer z more p) (place_at p) o l (sym v) (paren_longer (e.state).quotes (e.state).comments q listed z more d i t) j refl
     ∙ ap (λ (c : Call). step (outer_of e.open_calls) (call listed c (longer z more q) (here_of o l e (longer z more p)))) (sym same)) (k (λ z more. longer z more p))
-made_moves e e1 c listed name p q p' (Err y) d i j v at k = tt
+made_moves e e1 c listed name p q p' (Err y) d i j v same k = tt
 
 -- text goes where it goes
 text_goes : (cs : List Call) (x : List ℕ) (e : Engine) (p before : Pending) (o m : List ℕ) → e.open_calls ≡ cs → step (outer_of cs) (GoOn (put_text x (reading p (here_of o m (record e { open_calls = cs }) before)))) ≡ Goes (configuration o m (put_in cs x (record e { open_calls = cs })) p)
