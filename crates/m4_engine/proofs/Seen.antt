@@ -1,12 +1,15 @@
 -- Seen: what was seen of the first token of a text, as a turn takes it.
 use Rattle.std.proofs.Common.{◌≡◌, Some, None, ℕ, Bool, true, false, List, [], ◌∷◌, ◌++◌, append-nil, append_assoc, refl}
-use Rattle.std.proofs.Common.{sym, ap, ◌∙◌, drop, Option, ◌<◌, arith}
+use Rattle.std.proofs.Common.{sym, ap, ◌∙◌, drop, Option, ◌<◌, arith, subst, cond, take, ◌+◌}
 use Rattle.m4_state.specs.declared.definition.Def.{Def}
 use Rattle.m4_input.specs.declared.front.Answer.TheVariants.{Yes}
-use Rattle.std.specs.Prelude.{nat_lt, not, ◌&&◌, length, Result, Ok, Err, IfOk}
+use Rattle.std.specs.Prelude.{nat_lt, not, ◌&&◌, ◌==◌, length, Result, Ok, Err, IfOk}
+use Rattle.std.proofs.lemmas.Bool.{eqb-true}
+use Rattle.std.proofs.lemmas.List.Sums.{sum_by-cons}
 use Rattle.m4_state.specs.State.{State}
-use Rattle.m4_input.specs.Pending.{Pending, text_of, consumed}
-use Rattle.m4_input.specs.Paren.{paren_in, paren_from, paren_at}
+use Rattle.m4_input.specs.Ascii.{newline, open_parenthesis}
+use Rattle.m4_input.specs.Pending.{Pending, text_of, consumed, newlines_in}
+use Rattle.m4_input.specs.Paren.{answer_by, paren_in, paren_from, paren_at}
 use Rattle.m4_input.specs.declared.front.Answer.{Answer}
 use Rattle.m4_input.specs.Input.{answer_of, longer}
 use Rattle.m4_input.proofs.Parts.{drop_parts}
@@ -75,6 +78,35 @@ list_text q c p e = by p.definition e
     some v (b ∷ x) e = omega arith
 
     by : (o : Option Def) → paren_from o q c p ≡ Yes → 0 < length (text_of p)
+    by (Some d) e = cc
+    by None e = some p.may_follow (text_of p) e
+
+abbrev one_if : Bool → ℕ
+one_if v = cond v 1 0
+
+one_more : (b : ℕ) (x : List ℕ) → newlines_in (b ∷ x) ≡ one_if (b == newline) + newlines_in x
+one_more b x = sum_by-cons (λ (a : ℕ). one_if (a == newline)) b x
+
+-- a byte that is no newline
+pub byte_has_none : (b : ℕ) (x : List ℕ) → x ≡ b ∷ drop 1 x → (b == newline) ≡ false → newlines_in (take 1 x) ≡ 0
+byte_has_none b x e h =
+    subst (λ (y : List ℕ). newlines_in (take 1 y) ≡ 0) (sym e)
+    (one_more b [] ∙ ap (λ (v : Bool). one_if v + newlines_in []) h)
+
+-- a list follows, so a parenthesis does
+pub list_first : (q c : Delimiters) (p : Pending) → paren_at q c p ≡ answer_of true → text_of p ≡ open_parenthesis ∷ drop 1 (text_of p)
+list_first q c p e = by p.definition e
+  where
+    first : (b : ℕ) (y : List ℕ) (v s t : Bool) → (b == open_parenthesis) ≡ v → answer_by v s t ≡ Yes → b ∷ y ≡ open_parenthesis ∷ drop 1 (b ∷ y)
+    first b y true s t h e = ap (λ (a : ℕ). a ∷ y) (eqb-true b open_parenthesis h)
+    first b y false s t h e = cc
+
+    some : (v : Bool) (x : List ℕ) → paren_in q c v x ≡ Yes → x ≡ open_parenthesis ∷ drop 1 x
+    some true [] e = cc
+    some false [] e = cc
+    some v (b ∷ y) e = first b y _ _ _ refl e
+
+    by : (o : Option Def) → paren_from o q c p ≡ Yes → text_of p ≡ open_parenthesis ∷ drop 1 (text_of p)
     by (Some d) e = cc
     by None e = some p.may_follow (text_of p) e
 

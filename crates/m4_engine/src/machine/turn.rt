@@ -36,7 +36,7 @@ impl Machine {
     {
         match lookahead {
             Lookahead::Byte(byte) => {
-                input.consume(1, false);
+                input.consume(1, byte != b'\n');
                 self.take_byte(byte, input)
             }
             Lookahead::Expansion(len) => {
@@ -147,8 +147,8 @@ impl Machine {
         if !listed {
             return self.call(input);
         }
-        // The parenthesis was recognised as a token, so it is one byte.
-        input.consume(1, false);
+        // The parenthesis was recognised as a token, so it is one byte, and no newline.
+        input.consume(1, true);
         Ok(Turned::GoesOn)
     }
 

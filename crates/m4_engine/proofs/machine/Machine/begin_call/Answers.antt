@@ -1,5 +1,6 @@
-use Rattle.std.proofs.Common.{◌≡◌, List, ℕ, None, false, rules, ap, ◌∙◌, subst, take}
+use Rattle.std.proofs.Common.{◌≡◌, List, ℕ, None, false, rules, refl, ap, ◌∙◌, subst, take}
 use Rattle.std.specs.Prelude.{Ok}
+use Rattle.m4_input.specs.Ascii.{open_parenthesis}
 use Rattle.m4_input.specs.Pending.{text_of}
 use Rattle.m4_input.specs.Input.{Held, answer_of, longer}
 use Rattle.m4_engine.specs.Engine.{Engine, HasFront, is_deep_in}
@@ -13,7 +14,7 @@ use Rattle.m4_engine.specs.Expansion.{Call, place_at}
 use Rattle.m4_engine.specs.Lookahead.{IsCalled}
 use Rattle.m4_engine.proofs.Acts.{limits_by}
 use Rattle.m4_engine.proofs.Fronts.{at_error}
-use Rattle.m4_engine.proofs.Seen.{list_there, list_text, made_moves, bare_moves}
+use Rattle.m4_engine.proofs.Seen.{list_there, list_text, list_first, byte_has_none, made_moves, bare_moves}
 use Rattle.m4_engine.proofs.Turning.{found_steps_at}
 use Rattle.m4_engine.proofs.machine.Machine.begin_call.Goals as goal
 
@@ -29,6 +30,15 @@ consume-requires-2-clause-inline c = λ u.
     let e = c.args.self.now in
     let p = c.args.input.now.pending in
     name_has_none e.state.quotes e.state.comments p.may_follow (text_of p) _ c.args.len c.requires.named.scanned
+
+-- nor has the parenthesis
+pub consume-requires-3-clause-inline : goal.consume-requires-3-clause-inline
+consume-requires-3-clause-inline c = λ u.
+    let e = c.args.self.now in
+    let p = c.args.input.now.pending in
+    let q = c.consume-2.new.self.pending in
+    let list : paren_at e.state.quotes e.state.comments q ≡ answer_of c.args.listed = list_there e.state.quotes e.state.comments p q c.args.len (answer_of c.args.listed) (ap (λ (i : Held). i.pending) c.consume-2.ensures) c.requires.named.list in
+    byte_has_none open_parenthesis (text_of q) (list_first e.state.quotes e.state.comments q (list ∙ ap answer_of c.if-not-listed-2.false)) refl
 
 pub returns-then-needs_list-clause-turns : goal.returns-then-needs_list-clause-turns
 returns-then-needs_list-clause-turns c =
