@@ -1,27 +1,29 @@
 -- Acts: what a call leaves is what the definitions' move leaves.
-use Rattle.std.proofs.Common.{◌≡◌, Bool, true, false, Some, None, ◌++◌, length, ℕ, List, [], ◌∷◌, refl, sym, ap, ◌∙◌}
+use Rattle.std.proofs.Common.{◌≡◌, Bool, true, false, Some, None, ◌++◌, length, ℕ, List, [], ◌∷◌, refl, sym, ap, ◌∙◌, subst}
 use Rattle.std.proofs.Common.{append-nil, append_assoc}
 use Rattle.m4_state.specs.State.{State}
 use Rattle.m4_input.specs.Pending.{Pending, text_of, line_length}
 use Rattle.m4_input.specs.Input.{Held, longer}
 use Rattle.m4_builtins.specs.Act.{Acted, act}
 use Rattle.m4_builtins.specs.declared.effect.Effect.{Effect}
-use Rattle.std.specs.Prelude.{Result, Ok, Err, IfOk}
+use Rattle.std.specs.Prelude.{◌≢◌, Result, Ok, Err, IfOk, OnOk}
 use Rattle.m4_engine.specs.declared.turned.Turned.{Turned}
 use Rattle.m4_builtins.specs.declared.fault.BuiltinFault.{BuiltinFault as TurnFault}
 use Rattle.m4_engine.specs.declared.turned.Turned.TheVariants as turns
-use Rattle.m4_engine.specs.Args.{dropped_if_any, with_argument, end_argument}
+use Rattle.m4_engine.specs.declared.role.Role.{Role}
+use Rattle.m4_engine.specs.declared.role.Role.TheVariants.{Closing}
+use Rattle.m4_engine.specs.Args.{dropped_if_any, with_argument, end_argument, role_of, take_byte, take_closing}
 use Rattle.m4_engine.specs.declared.ending.Cause.TheVariants as causes
 use Rattle.m4_engine.specs.Expansion.{RunSoFar, Ends}
-use Rattle.m4_engine.specs.Nesting.{Halted, Close, Outcome, Closed}
+use Rattle.m4_engine.specs.Nesting.{Turn, Halted, Close, Outcome, Closed}
 use Rattle.m4_engine.specs.OpenCalls.{Stops, Stacked, Move, Goes, pop}
 use Rattle.m4_engine.specs.Expansion.{Call, Limits, Expansion, Kept, Ended, reading}
 use Rattle.m4_engine.specs.Expand.{turn, join, effected, skip_line, skip_or_push, with_saved, with_value, with_acted}
-use Rattle.m4_engine.specs.Expand.{mode_after_call}
+use Rattle.m4_engine.specs.Expand.{mode_after_call, take_other}
 use Rattle.m4_engine.specs.Engine.{Engine, so_far_of, mode_of, kept_in, outer_of, here_of, configuration, begun_in}
 use Rattle.m4_engine.specs.Engine.{with_made, ending_in, ending_argument, with_open_call, put_in}
 use Rattle.m4_engine.specs.Engine.{IsReady}
-use Rattle.m4_engine.specs.Turns.{called_within, close_in, step, moved, Makes, IsMade, StaysBy, Steps, IsTurned}
+use Rattle.m4_engine.specs.Turns.{called_within, close_in, step, moved, Makes, IsMade, StaysBy, Steps, StepsBy, IsTurned}
 use Rattle.m4_engine.specs.Turns.{Turns, MayFollow, Moving, Extended, line_move, Moves}
 
 -- the state of an expansion after a call with these effects
@@ -61,6 +63,21 @@ made_and_begun e s v messages output saved h i j =
     ap (λ (x : List ℕ). let d : Engine = record e { state = s; output = x; messages = messages ++ []; saved = saved; open_calls = begun_in e.open_calls } in d) (append-nil output ∙ i)
     ∙ ap (λ (x : List ℕ). let d : Engine = record e { state = s; output = e.output ++ v.output; messages = x; saved = saved; open_calls = begun_in e.open_calls } in d) (append-nil messages ∙ h)
     ∙ ap (λ (x : List (List ℕ)). let d : Engine = record e { state = s; output = e.output ++ v.output; messages = e.messages ++ v.messages; saved = x; open_calls = begun_in e.open_calls } in d) j
+
+-- the same of a call that was the innermost
+pub made_closed : (old e new : Engine) (c : Call) (s : State) (v : Effect) (cs : List Call) (messages output : List ℕ)
+    (saved : List (List ℕ)) → old ≡ with_open_call c e → cs ≡ e.open_calls
+    → messages ≡ old.messages ++ v.messages → output ≡ old.output ++ v.output → saved ≡ with_saved v.wrap old.saved
+    → new ≡ with_made [] [] None (record old { state = s; open_calls = cs; messages = messages; output = output; saved = saved })
+    → new ≡ with_made v.messages v.output v.wrap (record e { state = s })
+made_closed old e new c s v cs messages output saved h k f g i n =
+    n
+    ∙ ap (λ (x : Engine). with_made [] [] None (let d : Engine = record x { state = s; open_calls = cs; messages = messages; output = output; saved = saved } in d)) h
+    ∙ ap (λ (x : List Call). with_made [] [] None (let d : Engine = record e { state = s; open_calls = x; messages = messages; output = output; saved = saved } in d)) k
+    ∙ made_and_begun e s v messages output saved
+    (f ∙ ap (λ (x : Engine). x.messages ++ v.messages) h)
+    (g ∙ ap (λ (x : Engine). x.output ++ v.output) h)
+    (i ∙ ap (λ (x : Engine). with_saved v.wrap x.saved) h)
 
 -- a call after which the expansion continues
 pub called_goes : (e e1 : Engine) (c : Call) (a : Acted) (p p' : Pending)
@@ -150,6 +167,42 @@ pub closing_result : (may : Bool) (e e2 e3 : Engine) (c : Call) (p : Extended) (
     → IfOk r (λ t. Moves may e3 p' t
     (λ z more o m. step (outer_of e.open_calls) (close_in e.open_calls (here_of o m e (p z more)))))
 closing_result may e e2 e3 c p p' r h k = result_by may e3 p' r _ _ (λ z more w o m. closing_in e.open_calls e e2 c (p z more) h refl o m) k
+
+-- a byte that closes the innermost list
+pub closed_by : (cs : List Call) (d : Call) (ds : List Call) (b : ℕ) (s : Expansion) → cs ≡ d ∷ ds → role_of b d ≡ Closing
+    → d.parentheses ≡ 0 → take_other (mode_of cs) b s ≡ close_in cs s
+closed_by cs d ds b s i h n =
+    ap (λ (x : List Call). take_other (mode_of x) b s) i
+    ∙ ap (λ (r : Role). take_byte r b d s) h
+    ∙ ap (λ (k : ℕ). take_closing k b d s) n
+    ∙ sym (ap (λ (x : List Call). close_in x s) i)
+
+pub closing_byte : (e old e1 : Engine) (i j : Held) (r : Result Turned TurnFault) (d : Call) (ds : List Call) (b : ℕ) → old ≡ e
+    → e.open_calls ≡ d ∷ ds → role_of b d ≡ Closing → d.parentheses ≡ 0
+    → StepsBy r old e1 i j (λ s. step (outer_of old.open_calls) (close_in old.open_calls s))
+    → StepsBy r e e1 i j (λ s. step (outer_of e.open_calls) (take_other (mode_of e.open_calls) b s))
+closing_byte e old e1 i j r d ds b g h k n s =
+    let t = subst (λ (x : Engine). StepsBy r x e1 i j (λ s. step (outer_of x.open_calls) (close_in x.open_calls s))) g s in
+    record {
+      moves = result_by (i.pending).may_follow e1 j.pending r _ _ (λ z more u o m. ap (λ (v : Turn Expansion Kept Ended). step (outer_of e.open_calls) v) (closed_by e.open_calls d ds b (here_of o m e (longer z more i.pending)) h k n)) t.moves;
+      ready = t.ready;
+      limits = t.limits;
+      made = t.made;
+    }
+
+-- an argument ends, and leaves its call the innermost
+pub ending_opens : (e : Engine) → e.open_calls ≢ []
+    → (c : Call) × (e2 : Engine) × (ending_argument e ≡ with_open_call c e2) × (e2.limits ≡ e.limits)
+ending_opens e n = by e.open_calls n
+  where
+    by : (cs : List Call) → cs ≢ [] → (c : Call) × (e2 : Engine) × (ending_in cs e ≡ with_open_call c e2) × (e2.limits ≡ e.limits)
+    by [] n = absurd (n refl)
+    by (d ∷ ds) n =
+        (with_argument d, (let x : Engine = record e { messages = e.messages ++ dropped_if_any d.place d.bytes d.tokens; open_calls = ds } in x), refl, refl)
+
+pub limits_by : (r : Result Turned TurnFault) (a b c : Limits) → OnOk r (a ≡ b) → b ≡ c → OnOk r (a ≡ c)
+limits_by (Ok t) a b c h k = h ∙ k
+limits_by (Err x) a b c h k = tt
 
 -- a step is a turn, if the token before it was consumed
 stays_back : (i k j : Held) (t : Turned) → (k.pending).may_follow ≡ (i.pending).may_follow → (k.pending).file ≡ (i.pending).file → StaysBy k j t → StaysBy i j t

@@ -1,5 +1,5 @@
 -- Calling: a call that is refused, bare or listed, as the definitions' move.
-use Rattle.std.proofs.Common.{◌≡◌, ◌≤◌, length, ℕ, Bool, true, false, List, refl, sym, ap, ◌∙◌, subst, append_assoc}
+use Rattle.std.proofs.Common.{◌≡◌, ◌≤◌, length, ℕ, Bool, true, false, List, ◌∷◌, refl, sym, ap, ◌∙◌, subst, append_assoc}
 use Rattle.std.specs.Fmt.{decimal}
 use Rattle.std.specs.Prelude.{Result, Ok, Err, IfOk, nat_lt, codes, ◌++◌}
 use Rattle.m4_input.specs.Pending.{Pending, text_of, consumed}
@@ -10,12 +10,14 @@ use Rattle.m4_builtins.specs.Messages.{error}
 use Rattle.m4_engine.specs.declared.ending.Cause.{Cause}
 use Rattle.m4_engine.specs.declared.ending.Cause.TheVariants as causes
 use Rattle.m4_engine.specs.declared.turned.Turned.{Turned}
+use Rattle.m4_engine.specs.declared.turned.Turned.TheVariants as turns
+use Rattle.m4_engine.specs.declared.turned.TurnEnd.TheVariants as turn_ends
 use Rattle.m4_builtins.specs.declared.fault.BuiltinFault.{BuiltinFault as TurnFault}
 use Rattle.m4_engine.specs.Nesting.{Outcome, Halted, Closed}
 use Rattle.m4_engine.specs.OpenCalls.{Stops, Goes, pop}
 use Rattle.m4_engine.specs.Expansion.{Call, Expansion, Kept, Ended, Ends, fail}
-use Rattle.m4_engine.specs.Expand.{turn, join, called, bare, collect, call_unless_deep, call_if_room, call}
-use Rattle.m4_engine.specs.Engine.{Engine, so_far_of, kept_in, outer_of, here_of, configuration, with_engine_message}
+use Rattle.m4_engine.specs.Expand.{turn, join, called, bare, collect, call_unless_deep, call_if_room, call, take_end}
+use Rattle.m4_engine.specs.Engine.{Engine, so_far_of, mode_of, kept_in, outer_of, here_of, configuration, with_engine_message}
 use Rattle.m4_engine.specs.Engine.{with_one_call, calls_text, nested_text, with_open_call, is_deep_in}
 use Rattle.m4_engine.specs.Turns.{called_within, step, Extended, Moves}
 use Rattle.m4_engine.proofs.Acts.{moves_by}
@@ -25,6 +27,16 @@ pub failed_at : (o m : List ℕ) (e e1 : Engine) (p : Pending) (at : Place) (tex
 failed_at o m e e1 p at text cause fs h =
     (rw (append_assoc m e.messages (error at text)) refl)
     ∙ ap (λ (x : Engine). Stops (Halted (let d : Ended = record { so_far = so_far_of o m x; reason = Ends cause } in d))) (sym h)
+
+-- the input ends inside a list
+pub list_unended : (e e1 : Engine) (c : Call) (cs : List Call) → e.open_calls ≡ c ∷ cs
+    → e1 ≡ with_engine_message (error c.place (codes "end of input in argument list")) e
+    → (may : Bool) (p : Pending) (before : Extended)
+    → Moves may e1 p (turns.Ends turn_ends.EndInArguments)
+    (λ z more o m. step (outer_of e.open_calls) (take_end (mode_of e.open_calls) (here_of o m e (before z more))))
+list_unended e e1 c cs i h may p before = λ z more k o m.
+    ap (λ (x : List Call). step (outer_of x) (take_end (mode_of x) (here_of o m e (before z more)))) i
+    ∙ failed_at o m e e1 (before z more) c.place (codes "end of input in argument list") causes.EndInArguments (outer_of (c ∷ cs)) h
 
 -- the error that names a limit, by the limit's value
 pub limit_reported : (e e1 : Engine) (at : Place) (n limit : ℕ) (what : List ℕ) → n ≡ limit → e1 ≡ with_engine_message (error at (codes "more than " ++ decimal n ++ what)) e → e1 ≡ with_engine_message (error at (codes "more than " ++ decimal limit ++ what)) e

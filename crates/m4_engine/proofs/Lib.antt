@@ -50,6 +50,7 @@ pub mod Leading
 pub mod Marks
 pub mod Running
 pub mod Seen
+pub mod Stack
 pub mod ReadingOn
 pub mod Blockwise
 pub mod Sessions

@@ -1,12 +1,15 @@
 -- Seen: what was seen of the first token of a text, as a turn takes it.
 use Rattle.std.proofs.Common.{◌≡◌, Some, None, ℕ, Bool, true, false, List, [], ◌∷◌, ◌++◌, append-nil, append_assoc, refl}
-use Rattle.std.proofs.Common.{sym, ap, ◌∙◌, subst, drop, Option, ◌<◌, arith}
+use Rattle.std.proofs.Common.{sym, ap, ◌∙◌, drop, Option, ◌<◌, arith, subst, cond, take, ◌+◌}
 use Rattle.m4_state.specs.declared.definition.Def.{Def}
 use Rattle.m4_input.specs.declared.front.Answer.TheVariants.{Yes}
-use Rattle.std.specs.Prelude.{nat_lt, not, ◌&&◌, length, Result, Ok, Err, IfOk}
+use Rattle.std.specs.Prelude.{nat_lt, not, ◌&&◌, ◌==◌, length, Result, Ok, Err, IfOk}
+use Rattle.std.proofs.lemmas.Bool.{eqb-true}
+use Rattle.std.proofs.lemmas.List.Sums.{sum_by-cons}
 use Rattle.m4_state.specs.State.{State}
-use Rattle.m4_input.specs.Pending.{Pending, text_of, consumed}
-use Rattle.m4_input.specs.Paren.{paren_in, paren_from, paren_at}
+use Rattle.m4_input.specs.Ascii.{newline, open_parenthesis}
+use Rattle.m4_input.specs.Pending.{Pending, text_of, consumed, newlines_in}
+use Rattle.m4_input.specs.Paren.{answer_by, paren_in, paren_from, paren_at}
 use Rattle.m4_input.specs.declared.front.Answer.{Answer}
 use Rattle.m4_input.specs.Input.{answer_of, longer}
 use Rattle.m4_input.proofs.Parts.{drop_parts}
@@ -54,8 +57,9 @@ room_refused e h f = by_parts (nat_lt e.calls (e.limits).calls) (is_deep_in e) h
 
 -- a name that is recognised is called, at any place
 abbrev pub recognised_call : (listed : Bool) (s : State) (name : List ℕ) (at : Place) → Recognises listed s name
-    → (c : Call) × IsCalled c s name × (c.place ≡ at) × (listed ≡ false → needs_list c.definition ≡ false)
-recognised_call listed s name at h = (call_of h.0 name at, (h.1, refl, refl), refl, h.2)
+    → (c : Call) × (top_of s name ≡ Some c.definition) × (c ≡ call_of c.definition name at)
+    × (listed ≡ false → needs_list c.definition ≡ false)
+recognised_call listed s name at h = (call_of h.0 name at, h.1, refl, h.2)
 
 -- whether a list follows so many bytes, once these were consumed
 pub list_there : (q c : Delimiters) (p r : Pending) (n : ℕ) (v : Answer) → r ≡ consumed n p → paren_in q c p.may_follow (drop n (text_of p)) ≡ v → paren_at q c r ≡ v
@@ -74,6 +78,35 @@ list_text q c p e = by p.definition e
     some v (b ∷ x) e = omega arith
 
     by : (o : Option Def) → paren_from o q c p ≡ Yes → 0 < length (text_of p)
+    by (Some d) e = cc
+    by None e = some p.may_follow (text_of p) e
+
+abbrev one_if : Bool → ℕ
+one_if v = cond v 1 0
+
+one_more : (b : ℕ) (x : List ℕ) → newlines_in (b ∷ x) ≡ one_if (b == newline) + newlines_in x
+one_more b x = sum_by-cons (λ (a : ℕ). one_if (a == newline)) b x
+
+-- a byte that is no newline
+pub byte_has_none : (b : ℕ) (x : List ℕ) → x ≡ b ∷ drop 1 x → (b == newline) ≡ false → newlines_in (take 1 x) ≡ 0
+byte_has_none b x e h =
+    subst (λ (y : List ℕ). newlines_in (take 1 y) ≡ 0) (sym e)
+    (one_more b [] ∙ ap (λ (v : Bool). one_if v + newlines_in []) h)
+
+-- a list follows, so a parenthesis does
+pub list_first : (q c : Delimiters) (p : Pending) → paren_at q c p ≡ answer_of true → text_of p ≡ open_parenthesis ∷ drop 1 (text_of p)
+list_first q c p e = by p.definition e
+  where
+    first : (b : ℕ) (y : List ℕ) (v s t : Bool) → (b == open_parenthesis) ≡ v → answer_by v s t ≡ Yes → b ∷ y ≡ open_parenthesis ∷ drop 1 (b ∷ y)
+    first b y true s t h e = ap (λ (a : ℕ). a ∷ y) (eqb-true b open_parenthesis h)
+    first b y false s t h e = cc
+
+    some : (v : Bool) (x : List ℕ) → paren_in q c v x ≡ Yes → x ≡ open_parenthesis ∷ drop 1 x
+    some true [] e = cc
+    some false [] e = cc
+    some v (b ∷ y) e = first b y _ _ _ refl e
+
+    by : (o : Option Def) → paren_from o q c p ≡ Yes → text_of p ≡ open_parenthesis ∷ drop 1 (text_of p)
     by (Some d) e = cc
     by None e = some p.may_follow (text_of p) e
 
@@ -110,27 +143,22 @@ line_skips e e1 name p q d i room shallow g v =
     (bare_goes q.may_follow e (with_one_call e) e1 c (λ z more. longer z more q) q (Ok turns.SkipsLine) room shallow refl
     (λ z more t o l. called_skips (with_one_call e) e1 c a (longer z more q) refl refl refl g o l) (λ z more. longer z more p))
 
--- the call of a name, once its place is set
-pub called_at : (c d : Call) (at : Place) (s : State) (name : List ℕ) → d ≡ record c { place = at } → IsCalled c s name → IsCalled d s name
-called_at c d at s name h v =
-    subst (λ (k : Call). IsCalled k s name) (sym h) (v.0, v.1, ap (λ (k : Call). let l : Call = record k { place = at } in l) v.2)
-
 -- a call that is made
 pub made_moves : (e e1 : Engine) (c : Call) (listed : Bool) (name : List ℕ) (p q p' : Pending)
     (r : Result Turned TurnFault) → q.definition ≡ None
     → paren_at (e.state).quotes (e.state).comments q ≡ answer_of listed
-    → (listed ≡ false → needs_list c.definition ≡ false) → IsCalled c e.state name → c.place ≡ place_at p
+    → (listed ≡ false → needs_list c.definition ≡ false) → top_of e.state name ≡ Some c.definition
+    → c ≡ call_of c.definition name (place_at p)
     → IfOk r (λ u. (before : Extended)
     → Moves q.may_follow e1 p' u
     (λ z more o l. step (outer_of e.open_calls)
     (call listed c (longer z more q) (here_of o l e (before z more)))))
     → NameMoves q.may_follow e e1 p q p' r name
-made_moves e e1 c listed name p q p' (Ok u) d i j v at k =
+made_moves e e1 c listed name p q p' (Ok u) d i j v same k =
     let f = c.definition in
-    let same : c ≡ call_of f name (place_at p) = v.2 ∙ ap (λ (x : List ℕ). call_of f x c.place) v.1 ∙ ap (call_of f name) at in
-    moves_by q.may_follow e1 p' u _ _ (λ z more t o l. named e f name listed (longer z more q) (longer z more p) (place_at p) o l (sym v.0) (paren_longer (e.state).quotes (e.state).comments q listed z more d i t) j refl
+    moves_by q.may_follow e1 p' u _ _ (λ z more t o l. named e f name listed (longer z more q) (longer z more p) (place_at p) o l (sym v) (paren_longer (e.state).quotes (e.state).comments q listed z more d i t) j refl
     ∙ ap (λ (c : Call). step (outer_of e.open_calls) (call listed c (longer z more q) (here_of o l e (longer z more p)))) (sym same)) (k (λ z more. longer z more p))
-made_moves e e1 c listed name p q p' (Err y) d i j v at k = tt
+made_moves e e1 c listed name p q p' (Err y) d i j v same k = tt
 
 -- text goes where it goes
 text_goes : (cs : List Call) (x : List ℕ) (e : Engine) (p before : Pending) (o m : List ℕ) → e.open_calls ≡ cs → step (outer_of cs) (GoOn (put_text x (reading p (here_of o m (record e { open_calls = cs }) before)))) ≡ Goes (configuration o m (put_in cs x (record e { open_calls = cs })) p)

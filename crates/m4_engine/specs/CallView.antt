@@ -11,20 +11,20 @@ use Rattle.m4_engine.specs.Expansion.{Call}
 -- a call whose arguments are being collected: those after the first `count` ones are of earlier calls
 abbrev pub call_view : Inside → Call
 call_view c = record {
-  definition = c.parts.value.definition;
-  name = c.parts.value.name;
-  place = c.parts.value.place;
-  done = take c.parts.value.count c.parts.value.args.items;
-  parentheses = c.parts.value.parentheses;
-  begun = c.parts.value.begun;
-  bytes = c.parts.value.bytes.items;
-  tokens = c.parts.value.tokens.items;
+  definition = c.definition;
+  name = c.name;
+  place = c.place;
+  done = take c.count c.args.items;
+  parentheses = c.parentheses;
+  begun = c.begun;
+  bytes = c.bytes.items;
+  tokens = c.tokens.items;
 }
 
 -- the arguments are there, and the definitions among them are valid
 pub record IsOpenCall (c : Inside) : Type 0 where
-  pub valid : IsDefinition c.parts.value.definition
-  pub counted : c.parts.value.count ≤ length c.parts.value.args.items
-  pub nested : c.parts.value.parentheses ≤ length c.parts.value.bytes.items
+  pub valid : IsDefinition c.definition
+  pub counted : c.count ≤ length c.args.items
+  pub nested : c.parentheses ≤ length c.bytes.items
   pub done : AllByRecursion IsArg (call_view c).done
   pub tokens : AllByRecursion IsDefinition (call_view c).tokens

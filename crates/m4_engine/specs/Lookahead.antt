@@ -16,7 +16,6 @@ use Rattle.m4_builtins.specs.Act.{needs_list}
 use Rattle.m4_builtins.specs.Subst.{subst}
 use Rattle.m4_engine.specs.Collected.{IsText}
 use Rattle.m4_engine.specs.Expansion.{Call}
-use Rattle.m4_engine.specs.Expand.{call_of}
 use Rattle.m4_engine.specs.Plain.{IsUndecided}
 use Rattle.m4_engine.specs.declared.lookahead.Lookahead.{Lookahead}
 use Rattle.m4_engine.specs.declared.lookahead.Lookahead.TheVariants as aheads
@@ -27,10 +26,9 @@ IsExpansion c s name =
     (text : List ℕ) × (top_of s name ≡ Some (Text text)) × (text ≡ subst text name [] s.quotes)
     × (c.definition ≡ Text text)
 
--- c is the call of a name, with no argument yet, at some place
+-- c has a name and its definition
 abbrev pub IsCalled : Call → State → List ℕ → Type 0
-IsCalled c s name =
-    (top_of s name ≡ Some c.definition) × (c.name ≡ name) × (c ≡ call_of c.definition c.name c.place)
+IsCalled c s name = (top_of s name ≡ Some c.definition) × (c.name ≡ name)
 
 -- a name is recognised: it has a definition, which needs no list if none follows
 abbrev pub Recognises : Bool → State → List ℕ → Type 0

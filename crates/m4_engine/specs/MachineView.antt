@@ -1,14 +1,14 @@
 -- MachineView: the code's machine as the engine of the contracts.
 -- Not believed: it only maps the fields.
-use Rattle.std.specs.Prelude.{List, ◌∷◌, Option, Some, None, reverse}
+-- Words: open_of, engine_view.
+use Rattle.std.specs.Prelude.{ℕ, List, reverse, take}
 use Rattle.m4_engine.specs.declared.machine.Machine.TheInside.{Inside}
 use Rattle.m4_engine.specs.Expansion.{Call}
 use Rattle.m4_engine.specs.Engine.{Engine}
 
--- the innermost call before the outer ones
-abbrev pub innermost_first : Option Call → List Call → List Call
-innermost_first None cs = cs
-innermost_first (Some c) cs = c ∷ cs
+-- the open calls are the first n of a stack, the innermost last
+abbrev pub open_of : ℕ → List Call → List Call
+open_of n cs = reverse (take n cs)
 
 abbrev pub engine_view : Inside → Engine
 engine_view m = record {
@@ -16,7 +16,7 @@ engine_view m = record {
   state = m.state;
   saved = m.saved.items;
   calls = m.calls;
-  open_calls = innermost_first m.innermost (reverse m.outer.items);
+  open_calls = open_of m.depth m.stack.items;
   output = m.output.items;
   messages = m.messages.items;
 }

@@ -1,7 +1,6 @@
 //! A call whose arguments are being collected. Manual: "Macro arguments", "Quoting arguments".
 //!
-//! A call is in a box, which is kept with its memory for the next call. So a call is moved by its address, and most
-//! calls ask for no memory.
+//! A call keeps its memory when it was made, and the next one takes its place. So most calls ask for no memory.
 
 ghost use Rattle.std.specs.Prelude.{◌≡◌, ◌≤◌, ◌+◌, ◌++◌, ◌∷◌, [], true, false, Ok, OnOk};
 ghost use Rattle.std.specs.Prelude.{IfOk, IfSome, None, length, take};
@@ -24,18 +23,11 @@ use m4_state::definition::Def;
 use std::alloc::{AllocError, Global};
 use std::marker::Model;
 
-/// A call whose list is not closed yet: its definition, name and place as they were when the name was read,
-/// the complete arguments, and the part of the next one that was read.
+/// A call whose list is not closed yet: its definition, name and place as they were when its name was read, the complete
+/// arguments, and the part of the next one that was read. So no open call changes if a definition does. The first
+/// `count` arguments are complete. The others are of earlier calls, and are kept for their memory.
 #[derive(Drop)]
 pub struct OpenCall {
-    parts: Box<Parts>,
-}
-
-/// The parts of an open call: its definition, name and place as they were when its name was read, so that no open call
-/// changes if a definition does. The first `count` arguments are complete. The others are of earlier calls, and are
-/// kept for their memory.
-#[derive(Drop)]
-struct Parts {
     definition: Def,
     name: Bytes,
     place: Place,
@@ -100,9 +92,9 @@ fn argument(bytes: Vec<u8>, tokens: Vec<Def>) -> Result<Arg, AllocError>
 }
 
 impl OpenCall {
-    /// Creates a call without a name, a definition or memory, for `renew`.
-    pub fn blank(alloc: Global) -> Result<OpenCall, AllocError> {
-        let parts = Parts {
+    /// Creates a call without a name, a definition or memory.
+    pub fn blank(alloc: Global) -> OpenCall {
+        OpenCall {
             definition: Def::Text(Bytes::empty()),
             name: Bytes::empty(),
             place: Place {
@@ -116,23 +108,29 @@ impl OpenCall {
             bytes: Vec::new(alloc),
             tokens: Vec::new(alloc),
             is_large: false,
-        };
-        Ok(OpenCall {
-            parts: Box::new(alloc, parts)?,
-        })
+        }
     }
 
-    /// Makes this a call of the name that is the first `len` bytes of a text, with no argument read yet. Keeps its
-    /// memory and place. The text is taken, since a short name is copied with the bytes after it.
+    /// Sets the name, to the first `len` bytes of a text, and the definition. The text is taken, since a short name is
+    /// copied with the bytes after it.
     pub fn renew(&mut self, text: &[u8], len: usize, definition: &Def) -> Result<(), AllocError>
         requires valid { IsDefinition definition.now }
         requires within { len ≤ length text.now }
-        ensures { OnOk result (self.new ≡ call_of definition.now (take len text.now) self.old.place) }
+        ensures { OnOk result (self.new ≡ record self.old { definition = definition.now; name = take len text.now }) }
     {
+        let alloc = *self.bytes.allocator();
+        self.name.set_front(alloc, text, len)?;
+        self.definition.set(definition)
+    }
+
+    /// Makes this the call of another's name and definition, with no argument read yet. Keeps its memory and place.
+    #[inline(always)]
+    pub fn begin(&mut self, next: &mut OpenCall)
+        ensures { self.new ≡ call_of next.old.definition next.old.name self.old.place }
+    {
+        std::mem::swap(&mut self.name, &mut next.name);
+        std::mem::swap(&mut self.definition, &mut next.definition);
         self.clear();
-        let alloc = *self.parts.bytes.allocator();
-        self.parts.name.set_front(alloc, text, len)?;
-        self.parts.definition.set(definition)
     }
 
     /// Sets the definition.
@@ -141,7 +139,7 @@ impl OpenCall {
         requires { IsDefinition definition.now }
         ensures { OnOk result (self.new ≡ record self.old { definition = definition.now }) }
     {
-        self.parts.definition.set(definition)
+        self.definition.set(definition)
     }
 
     /// Sets the place of the call's name: it is the next token of this input.
@@ -149,8 +147,8 @@ impl OpenCall {
     pub fn set_place(&mut self, input: &Input) -> Result<(), AllocError>
         ensures { OnOk result (self.new ≡ record self.old { place = place_at input.now.pending }) }
     {
-        input.put_name(&mut self.parts.place.file)?;
-        self.parts.place.line = input.line();
+        input.put_name(&mut self.place.file)?;
+        self.place.line = input.line();
         Ok(())
     }
 
@@ -159,19 +157,19 @@ impl OpenCall {
     fn clear(&mut self)
         ensures { self.new ≡ call_of self.old.definition self.old.name self.old.place }
     {
-        self.parts.count = 0;
-        self.parts.parentheses = 0;
-        self.parts.begun = false;
-        self.parts.bytes.clear();
-        self.parts.tokens.clear();
+        self.count = 0;
+        self.parentheses = 0;
+        self.begun = false;
+        self.bytes.clear();
+        self.tokens.clear();
     }
 
     /// Drops the memory of all but the first `most` arguments, and of anything large, if there is such memory. The rest
     /// of the contents is dropped by `renew`.
     #[inline(always)]
     pub fn shed(&mut self, most: usize) {
-        let is_long = self.parts.args.len() > most;
-        if is_long || self.parts.is_large || self.parts.definition.len() > LARGEST_COPIED {
+        let is_long = self.args.len() > most;
+        if is_long || self.is_large || self.definition.len() > LARGEST_COPIED {
             self.shed_memory(most);
         }
     }
@@ -179,34 +177,46 @@ impl OpenCall {
     /// Drops the memory of all but the first `most` arguments, and of anything large.
     #[inline(never)]
     fn shed_memory(&mut self, most: usize) {
-        let alloc = *self.parts.bytes.allocator();
-        self.clear();
-        self.parts.args.truncate(most);
-        drop_large(&mut self.parts.args);
-        self.parts.bytes = Vec::new(alloc);
-        self.parts.definition = Def::Text(Bytes::empty());
-        self.parts.is_large = false;
+        let alloc = *self.bytes.allocator();
+        self.count = 0;
+        self.parentheses = 0;
+        self.tokens = Vec::new(alloc);
+        self.args.truncate(most);
+        drop_large(&mut self.args);
+        self.bytes = Vec::new(alloc);
+        self.definition = Def::Text(Bytes::empty());
+        self.is_large = false;
     }
 
     /// Returns whether the call has no memory for its arguments yet.
     #[inline(always)]
-    pub fn needs_memory(&self) -> bool
-        ensures { result ≡ true → self.now.done ≡ [] }
-    {
-        self.parts.args.is_empty()
+    pub fn needs_memory(&self) -> bool {
+        self.args.is_empty()
     }
 
-    /// Moves the memory for arguments here from a call that was made.
-    #[inline(never)]
-    pub fn take_memory(&mut self, made: &mut OpenCall)
-        requires { self.old.done ≡ [] }
+    /// Gives up the memory for arguments, of a call that was made.
+    pub fn give_memory(&mut self) -> (Vec<Arg>, Vec<u8>) {
+        let alloc = *self.bytes.allocator();
+        self.count = 0;
+        self.parentheses = 0;
+        let args = std::mem::replace(&mut self.args, Vec::new(alloc));
+        let bytes = std::mem::replace(&mut self.bytes, Vec::new(alloc));
+        (args, bytes)
+    }
+
+    /// Takes the memory for arguments of a call that was made, if this one has none.
+    pub fn take_memory(&mut self, memory: (Vec<Arg>, Vec<u8>))
         ensures { self.new ≡ self.old }
     {
-        made.clear();
-        self.parts.count = 0;
-        std::mem::swap(&mut self.parts.args, &mut made.parts.args);
-        if self.parts.bytes.is_empty() {
-            std::mem::swap(&mut self.parts.bytes, &mut made.parts.bytes);
+        if !self.args.is_empty() {
+            return;
+        }
+        let (args, bytes) = memory;
+        self.count = 0;
+        self.args = args;
+        if self.bytes.is_empty() {
+            self.bytes = bytes;
+            self.bytes.clear();
         }
     }
 
@@ -215,14 +225,14 @@ impl OpenCall {
         ensures value { result.now ≡ self.now.definition }
         ensures valid { IsDefinition result.now }
     {
-        &self.parts.definition
+        &self.definition
     }
 
     /// Returns the name by which the macro was called.
     pub fn name(&self) -> &[u8]
         ensures { result.now ≡ self.now.name }
     {
-        self.parts.name.as_slice()
+        self.name.as_slice()
     }
 
     /// Returns the arguments that are complete.
@@ -230,28 +240,28 @@ impl OpenCall {
         ensures list { result.now ≡ self.now.done }
         ensures valid { AllByRecursion IsArg result.now }
     {
-        self.parts.args.split_at(self.parts.count).0
+        self.args.split_at(self.count).0
     }
 
     /// Returns the place of the call's name.
     pub fn place(&self) -> &Place
         ensures { result.now ≡ self.now.place }
     {
-        &self.parts.place
+        &self.place
     }
 
     /// Returns whether the argument has begun. Until it has, white space is dropped.
     pub fn has_begun(&self) -> bool
         ensures { result ≡ self.now.begun }
     {
-        self.parts.begun
+        self.begun
     }
 
     /// Marks the argument as begun, so that white space now belongs to it.
     pub fn mark_begun(&mut self)
         ensures { self.new ≡ record self.old { begun = true } }
     {
-        self.parts.begun = true;
+        self.begun = true;
     }
 
     /// Returns the role of a byte that belongs to no other token.
@@ -261,8 +271,8 @@ impl OpenCall {
         match byte {
             b'(' => Role::Opening,
             b')' => Role::Closing,
-            b',' if self.parts.parentheses == 0 => Role::Separator,
-            b' ' | 9..=13 if !self.parts.begun => Role::Blank,
+            b',' if self.parentheses == 0 => Role::Separator,
+            b' ' | 9..=13 if !self.begun => Role::Blank,
             _ => Role::Other,
         }
     }
@@ -274,9 +284,8 @@ impl OpenCall {
         ensures { OnOk result (self.new ≡ record self.old
             { begun = true; bytes = self.old.bytes ++ take len text.now }) }
     {
-        let parts = &mut *self.parts;
-        parts.begun = true;
-        append_front(&mut parts.bytes, text, len)
+        self.begun = true;
+        append_front(&mut self.bytes, text, len)
     }
 
     /// Appends a definition to the argument.
@@ -285,8 +294,8 @@ impl OpenCall {
         ensures { OnOk result (self.new ≡ record self.old
             { begun = true; tokens = self.old.tokens ++ definition ∷ [] }) }
     {
-        self.parts.begun = true;
-        self.parts.tokens.push(definition)?;
+        self.begun = true;
+        self.tokens.push(definition)?;
         Ok(())
     }
 
@@ -295,9 +304,9 @@ impl OpenCall {
         ensures { dropped_if_any self.now.place self.now.bytes self.now.tokens
             ≡ warning_if_dropped result self.now.place }
     {
-        match self.parts.tokens.len() {
+        match self.tokens.len() {
             0 => false,
-            1 => !self.parts.bytes.is_empty(),
+            1 => !self.bytes.is_empty(),
             _ => true,
         }
     }
@@ -311,18 +320,17 @@ impl OpenCall {
             × (dropped_if_any self.old.place self.old.bytes self.old.tokens
             ≡ warning_if_dropped drops self.old.place)) }
     {
-        let parts = &mut *self.parts;
-        let is_large = parts.bytes.len() > LARGEST_COPIED;
-        parts.is_large |= is_large;
+        let is_large = self.bytes.len() > LARGEST_COPIED;
+        self.is_large |= is_large;
         // Most arguments are short texts, and most find the memory of an earlier one.
         if !is_large
-            && parts.tokens.is_empty()
-            && parts.count < parts.args.len()
-            && let Arg::Text(kept) = &mut parts.args[parts.count]
+            && self.tokens.is_empty()
+            && self.count < self.args.len()
+            && let Arg::Text(kept) = &mut self.args[self.count]
         {
-            kept.put(&mut parts.bytes);
-            parts.count += 1;
-            parts.begun = false;
+            kept.put(&mut self.bytes);
+            self.count += 1;
+            self.begun = false;
             return Ok(false);
         }
         self.end_any_argument()
@@ -338,18 +346,18 @@ impl OpenCall {
             ≡ warning_if_dropped drops self.old.place)) }
     {
         let drops = self.drops();
-        let alloc = *self.parts.bytes.allocator();
-        let count = self.parts.count;
-        let bytes = std::mem::replace(&mut self.parts.bytes, Vec::new(alloc));
-        let tokens = std::mem::replace(&mut self.parts.tokens, Vec::new(alloc));
+        let alloc = *self.bytes.allocator();
+        let count = self.count;
+        let bytes = std::mem::replace(&mut self.bytes, Vec::new(alloc));
+        let tokens = std::mem::replace(&mut self.tokens, Vec::new(alloc));
         let arg = argument(bytes, tokens)?;
-        if count < self.parts.args.len() {
-            self.parts.args[count] = arg;
+        if count < self.args.len() {
+            self.args[count] = arg;
         } else {
-            self.parts.args.push(arg)?;
+            self.args.push(arg)?;
         }
-        self.parts.count = count + 1;
-        self.parts.begun = false;
+        self.count = count + 1;
+        self.begun = false;
         Ok(drops)
     }
 
@@ -364,15 +372,15 @@ impl OpenCall {
         match self.role(byte) {
             Role::Blank => {}
             Role::Opening => {
-                self.parts.begun = true;
-                self.parts.bytes.push(b'(')?;
-                self.parts.parentheses += 1;
+                self.begun = true;
+                self.bytes.push(b'(')?;
+                self.parentheses += 1;
             }
-            Role::Closing if self.parts.parentheses == 0 => return Ok(Some(ListEnd::List)),
+            Role::Closing if self.parentheses == 0 => return Ok(Some(ListEnd::List)),
             Role::Closing => {
-                self.parts.begun = true;
-                self.parts.bytes.push(b')')?;
-                self.parts.parentheses -= 1;
+                self.begun = true;
+                self.bytes.push(b')')?;
+                self.parentheses -= 1;
             }
             Role::Separator if self.drops() => return Ok(Some(ListEnd::Argument)),
             Role::Separator => {

@@ -16,7 +16,6 @@ mod role;
 pub mod run;
 pub mod session;
 pub mod source;
-mod spare;
 pub mod stop;
 mod token_sink;
 mod turned;

@@ -2,10 +2,13 @@
 //!
 //! The output and messages of a turn are buffered until they are flushed, so a turn uses no writer.
 
-ghost use Rattle.std.specs.Prelude.{◌≡◌, [], OnOk, OnErr, IfOk, IfSome, IfNone};
+ghost use Rattle.std.specs.Prelude.{◌≡◌, ◌<◌, ◌≤◌, ◌++◌, List, [], length, OnOk, OnErr, IfOk};
 ghost use Rattle.m4_state.specs.Device.{Puts, count_after};
 ghost use Rattle.m4_builtins.specs.Messages.{error};
 ghost use Rattle.m4_engine.specs.Engine.{KeepsOutput, with_text, with_engine_message, with_open_call, engine_at};
+ghost use Rattle.m4_engine.specs.Expand.{call_of};
+ghost use Rattle.m4_engine.specs.Expansion.{Call, place_at};
+ghost use Rattle.m4_engine.specs.MachineView.{open_of};
 ghost use Rattle.m4_engine.specs.Session.{is_saved};
 ghost use Rattle.m4_engine.specs.Wraps.{close, joined_back};
 
@@ -18,12 +21,12 @@ mod plain;
 mod turn;
 
 use crate::call::OpenCall;
-use crate::spare::Spare;
 use crate::turned::TurnFault;
 pub(crate) use driver::OUTPUT_BLOCK;
 use m4_builtins::effect_buffer::EffectBuffer;
 use m4_builtins::messages::error_message;
 use m4_builtins::place::Place;
+use m4_input::input::Input;
 use m4_state::bytes::Bytes;
 use m4_state::device::{ByteSink, DeviceFault};
 use m4_state::state::State;
@@ -39,18 +42,18 @@ pub struct Machine {
     most_nested: u64,
     state: State,
     calls: u64,
-    innermost: Option<OpenCall>,
-    outer: Vec<OpenCall>,
+    // The first `depth` calls are open, the outermost first. The others were made, and are kept for their memory.
+    stack: Vec<OpenCall>,
+    depth: usize,
     output: Vec<u8>,
     messages: Vec<u8>,
     saved: Vec<Bytes>,
-    spare: Spare,
     // The effect of the call that is made, or of the last one, which is kept for its memory.
     effect: EffectBuffer,
 }
 
 impl Model for Machine {
-    ghost use Rattle.std.specs.Prelude.{◌≡◌, [], None};
+    ghost use Rattle.std.specs.Prelude.{◌≤◌, length};
     ghost use Rattle.m4_engine.specs.Engine.{Engine};
     ghost use Rattle.m4_engine.specs.MachineView.{engine_view};
 
@@ -58,7 +61,30 @@ impl Model for Machine {
 
     ghost view = { engine_view };
 
-    ghost invariant = { λ m. m.innermost ≡ None → m.outer.items ≡ [] };
+    ghost invariant = { λ m. m.depth ≤ length m.stack.items };
+}
+
+/// Makes sure that there is memory for one more open call.
+#[inline(always)]
+fn make_room(stack: &mut Vec<OpenCall>, depth: usize, alloc: Global) -> Result<(), AllocError>
+    requires { depth ≤ length stack.old.items }
+    ensures room { OnOk result (depth < length stack.new.items) }
+    ensures within { depth ≤ length stack.new.items }
+    ensures same { open_of depth stack.new.items ≡ open_of depth stack.old.items }
+{
+    if depth < stack.len() {
+        return Ok(());
+    }
+    add_call(stack, alloc)
+}
+
+/// Adds memory for a call. Not inlined, since most calls find it.
+#[inline(never)]
+fn add_call(stack: &mut Vec<OpenCall>, alloc: Global) -> Result<(), AllocError>
+    ensures added { (cs : List Call) × (stack.new.items ≡ stack.old.items ++ cs) × OnOk result (0 < length cs) }
+{
+    stack.push(OpenCall::blank(alloc))?;
+    Ok(())
 }
 
 impl Machine {
@@ -72,12 +98,11 @@ impl Machine {
             most_nested,
             state,
             calls: 0,
-            innermost: None,
-            outer: Vec::new(alloc),
+            stack: Vec::new(alloc),
+            depth: 0,
             output: Vec::new(alloc),
             messages: Vec::new(alloc),
             saved: Vec::new(alloc),
-            spare: Spare::new(alloc),
             effect: EffectBuffer::new(alloc),
         }
     }
@@ -92,9 +117,10 @@ impl Machine {
         ensures engine { OnOk result (self.new ≡ with_text text.now self.old) }
         ensures kept { OnErr result (KeepsOutput self.old self.new) }
     {
-        let Some(call) = &mut self.innermost else {
+        if self.depth == 0 {
             return self.put_outside(text);
-        };
+        }
+        let call = &mut self.stack[self.depth - 1];
         call.put_front(text, text.len())?;
         Ok(())
     }
@@ -117,25 +143,19 @@ impl Machine {
         Ok(())
     }
 
-    /// Opens a list: its call becomes the innermost.
+    /// Opens the list of the next call, whose name is the next token of the input: it becomes the innermost.
     #[inline(always)]
-    pub fn open_list(&mut self, call: OpenCall) -> Result<(), AllocError>
-        ensures engine { OnOk result (self.new ≡ with_open_call call self.old) }
+    pub fn open_list(&mut self, next: &mut OpenCall, input: &Input) -> Result<(), AllocError>
+        ensures engine { OnOk result (self.new ≡ with_open_call
+            (call_of next.old.definition next.old.name (place_at input.now.pending)) self.old) }
         ensures kept { OnErr result (KeepsOutput self.old self.new) }
     {
-        if let Some(outer) = std::mem::replace(&mut self.innermost, Some(call)) {
-            self.outer.push(outer)?;
-        }
+        make_room(&mut self.stack, self.depth, self.alloc)?;
+        let call = &mut self.stack[self.depth];
+        call.begin(next);
+        call.set_place(input)?;
+        self.depth += 1;
         Ok(())
-    }
-
-    /// Closes the innermost list: removes its call and returns it.
-    pub fn close_list(&mut self) -> Option<OpenCall>
-        ensures some { IfSome result (λ c. self.old ≡ with_open_call c self.new) }
-        ensures none { IfNone result ((self.old.open_calls ≡ []) × (self.new ≡ self.old)) }
-    {
-        let around = self.outer.pop();
-        std::mem::replace(&mut self.innermost, around)
     }
 
     /// Returns whether a text is saved for the end.

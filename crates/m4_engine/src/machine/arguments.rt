@@ -1,7 +1,7 @@
 //! Bytes of an argument list that are no other token: each extends an argument, ends it, or closes the list.
 //! Manual: "Macro arguments".
 
-ghost use Rattle.std.specs.Prelude.{◌≡◌, OnOk, OnErr};
+ghost use Rattle.std.specs.Prelude.{◌≡◌, ◌≢◌, [], OnOk, OnErr};
 ghost use Rattle.m4_engine.specs.Engine.{ending_argument, IfHead, KeepsOutput, mode_of, outer_of};
 ghost use Rattle.m4_engine.specs.Turns.{IsTaken, StepsBy, close_in, step};
 ghost use Rattle.m4_engine.specs.Expand.{take_other};
@@ -21,10 +21,11 @@ impl Machine {
             (λ s. step (outer_of self.old.open_calls) (take_other (mode_of self.old.open_calls) byte s)) }
         ensures kept { OnErr result (KeepsOutput self.old self.new) }
     {
-        let Some(call) = &mut self.innermost else {
+        if self.depth == 0 {
             self.put_text(&[byte])?;
             return Ok(Turned::GoesOn);
-        };
+        }
+        let call = &mut self.stack[self.depth - 1];
         match call.take_byte(byte)? {
             None => Ok(Turned::GoesOn),
             Some(ListEnd::Argument) => {
@@ -42,9 +43,10 @@ impl Machine {
         ensures engine { OnOk result (self.new ≡ ending_argument self.old) }
         ensures kept { OnErr result (KeepsOutput self.old self.new) }
     {
-        let Some(call) = &mut self.innermost else {
+        if self.depth == 0 {
             return Ok(());
-        };
+        }
+        let call = &mut self.stack[self.depth - 1];
         if call.end_argument()? {
             let place = call.place();
             let message = dropped_message(self.alloc, place)?;
@@ -58,15 +60,13 @@ impl Machine {
     #[inline(always)]
     fn take_closing(&mut self, input: &mut Input) -> Result<Turned, TurnFault>
         requires list { IfHead self.old.open_calls (λ c. c.parentheses ≡ 0) }
+        requires inside { self.old.open_calls ≢ [] }
         requires input { IsTaken input.old }
         ensures steps { StepsBy result self.old self.new input.old input.new
             (λ s. step (outer_of self.old.open_calls) (close_in self.old.open_calls s)) }
         ensures kept { OnErr result (KeepsOutput self.old self.new) }
     {
         self.end_argument()?;
-        let Some(call) = self.close_list() else {
-            return Ok(Turned::GoesOn);
-        };
-        self.call(call, input)
+        self.call(input)
     }
 }

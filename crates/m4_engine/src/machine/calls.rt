@@ -1,11 +1,13 @@
 //! Calls: a call begins at its name and is made when its arguments are complete. Its result is pushed.
 //! Manual: "Macro invocation", "Macro arguments".
 
-ghost use Rattle.std.specs.Prelude.{◌≡◌, [], ◌++◌, None, Some, OnOk, OnErr};
+ghost use Rattle.std.specs.Prelude.{◌≡◌, ◌≢◌, ◌<◌, ◌≤◌, [], ◌++◌, length, None, Some, OnOk, OnErr};
 ghost use Rattle.m4_input.specs.declared.pushed.Pushed.TheVariants as pushes;
 ghost use Rattle.m4_builtins.specs.Act.{IsPushed};
-ghost use Rattle.m4_engine.specs.Engine.{HasFront, KeepsOutput, with_made};
+ghost use Rattle.m4_engine.specs.Engine.{Engine, HasFront, KeepsOutput, with_made, with_open_call};
 ghost use Rattle.m4_engine.specs.Expand.{with_saved};
+ghost use Rattle.m4_engine.specs.Expansion.{Call};
+ghost use Rattle.m4_engine.specs.MachineView.{open_of};
 ghost use Rattle.m4_engine.specs.Turns.{IsTaken, StepsBy, Pushes, Stays, called_within};
 
 use crate::call::OpenCall;
@@ -18,6 +20,15 @@ use m4_input::input::Input;
 use m4_input::pushed::Pushed;
 use m4_state::bytes::Bytes;
 use std::alloc::AllocError;
+
+/// How many calls may keep the memory of a long list.
+const LONG: usize = 4;
+
+/// How many arguments these keep at most, each. No argument that is kept is large.
+const LONGEST: usize = 4096;
+
+/// How many arguments any other call keeps at most.
+const USUAL: usize = 8;
 
 /// Pushes a value: it is read before everything else.
 #[inline(always)]
@@ -105,17 +116,49 @@ fn lend(effect: &mut EffectBuffer, input: &mut Input)
     }
 }
 
+/// Gives the innermost of the first `depth` calls memory for its arguments, if it has none.
+#[inline(always)]
+fn lend_memory(stack: &mut Vec<OpenCall>, depth: usize)
+    requires some { 0 < depth }
+    requires within { depth ≤ length stack.old.items }
+    ensures same { open_of depth stack.new.items ≡ open_of depth stack.old.items }
+    ensures within { depth ≤ length stack.new.items }
+{
+    if stack[depth - 1].needs_memory() {
+        move_memory(stack, depth);
+    }
+}
+
+/// Moves the memory of the call that was made last, if any, to the innermost of the first `depth` calls. Deeply nested
+/// calls are made one after another, the innermost first, so that one memory serves all of them.
+#[inline(never)]
+fn move_memory(stack: &mut Vec<OpenCall>, depth: usize)
+    requires some { 0 < depth }
+    requires within { depth ≤ length stack.old.items }
+    ensures same { open_of depth stack.new.items ≡ open_of depth stack.old.items }
+    ensures within { depth ≤ length stack.new.items }
+{
+    if depth < stack.len() {
+        let memory = stack[depth].give_memory();
+        stack[depth - 1].take_memory(memory);
+    }
+}
+
 impl Machine {
-    /// Makes a call whose arguments are complete: acts on it, and pushes its value. The effect has memory for a text
-    /// that the call makes.
+    /// Makes the innermost call, whose arguments are complete: closes its list, acts on it, and pushes its value. The
+    /// effect has memory for a text that the call makes.
     #[inline(never)]
-    pub(super) fn call(&mut self, call: OpenCall, input: &mut Input) -> Result<Turned, TurnFault>
-        requires { IsTaken input.old }
-        ensures steps { StepsBy result self.old self.new input.old input.new (called_within self.old.open_calls call) }
+    pub(super) fn call(&mut self, input: &mut Input) -> Result<Turned, TurnFault>
+        requires taken { IsTaken input.old }
+        requires inside { self.old.open_calls ≢ [] }
+        ensures steps { (c : Call) (e : Engine) → self.old ≡ with_open_call c e
+            → StepsBy result e self.new input.old input.new (called_within e.open_calls c) }
         ensures kept { OnErr result (KeepsOutput self.old self.new) }
     {
         lend(&mut self.effect, input);
         self.effect.clear();
+        self.depth -= 1;
+        let call = &mut self.stack[self.depth];
         act_on(
             &mut self.effect,
             call.definition(),
@@ -124,7 +167,7 @@ impl Machine {
             call.place(),
             &mut self.state,
         )?;
-        self.spare.keep(call);
+        call.shed(if self.depth < LONG { LONGEST } else { USUAL });
         put_more(
             &mut self.effect,
             &mut self.messages,
@@ -149,9 +192,10 @@ impl Machine {
     pub(super) fn begin_argument(&mut self)
         ensures { self.new ≡ with_made [] [] None self.old }
     {
-        if let Some(around) = &mut self.innermost {
-            around.mark_begun();
-            self.spare.lend(around);
+        if self.depth == 0 {
+            return;
         }
+        self.stack[self.depth - 1].mark_begun();
+        lend_memory(&mut self.stack, self.depth);
     }
 }

@@ -110,9 +110,7 @@ impl Machine {
         {
             return Ok(Wanted::Line);
         }
-        let Ok(mut next) = OpenCall::blank(self.alloc) else {
-            return Err(Cause::OutOfMemory);
-        };
+        let mut next = OpenCall::blank(self.alloc);
         'turns: loop {
             let made = self.output.len();
             let Ok(lookahead) = self.pass_plain(input, copy, &mut next) else {
@@ -209,8 +207,7 @@ impl Machine {
     pub fn come_to_rest(&mut self)
         ensures { self.new ≡ at_rest self.old }
     {
-        self.innermost = None;
-        self.outer.clear();
+        self.depth = 0;
         self.output.clear();
         self.messages.clear();
     }

@@ -24,10 +24,10 @@ impl Machine {
             (take_end (mode_of self.old.open_calls) (here_of o m self.old (before z more))))) }
         ensures kept { OnErr result (KeepsOutput self.old self.new) }
     {
-        let Some(call) = &self.innermost else {
+        if self.depth == 0 {
             return Ok(Turned::Ends(TurnEnd::Done));
-        };
-        let place = call.place();
+        }
+        let place = self.stack[self.depth - 1].place();
         let message = error_message(self.alloc, place, b"end of input in argument list")?;
         self.add_message(message.as_slice())?;
         Ok(Turned::Ends(TurnEnd::EndInArguments))

@@ -23,9 +23,7 @@ impl Machine {
     pub(super) fn is_deep(&self) -> bool
         ensures { result ≡ is_deep_in self.now }
     {
-        let around = usize::from(self.innermost.is_some());
-        let open = self.outer.len() + around;
-        self.most_nested > 0 && open as u64 >= self.most_nested
+        self.most_nested > 0 && self.depth as u64 >= self.most_nested
     }
 
     /// Returns whether the limits allow one more call.

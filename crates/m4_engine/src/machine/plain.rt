@@ -70,9 +70,10 @@ impl Machine {
         ensures passes { IfOk result (λ r. PassesBy r.0 r.1 next.new text.now more self.old self.new) }
         ensures kept { OnErr result (KeepsOutput self.old self.new) }
     {
-        let Some(call) = &mut self.innermost else {
+        if self.depth == 0 {
             return self.pass_outside(text, more, next);
-        };
+        }
+        let call = &mut self.stack[self.depth - 1];
         let passed = pass_tokens(call, text, &self.state, next, more)?;
         Ok(passed)
     }

@@ -36,7 +36,7 @@ impl Machine {
     {
         match lookahead {
             Lookahead::Byte(byte) => {
-                input.consume(1, false);
+                input.consume(1, byte != b'\n');
                 self.take_byte(byte, input)
             }
             Lookahead::Expansion(len) => {
@@ -109,7 +109,8 @@ impl Machine {
         let Some(definition) = input.take_definition() else {
             unreachable!();
         };
-        if let Some(call) = &mut self.innermost {
+        if self.depth > 0 {
+            let call = &mut self.stack[self.depth - 1];
             call.put_token(definition)?;
         }
         Ok(Turned::GoesOn)
@@ -140,16 +141,14 @@ impl Machine {
         if !self.allows_call() {
             return self.refuse_call(len, listed, next, input);
         }
-        next.set_place(input)?;
-        input.consume(len, true);
         self.count();
-        let call = std::mem::replace(next, self.spare.take()?);
+        self.open_list(next, input)?;
+        input.consume(len, true);
         if !listed {
-            return self.call(call, input);
+            return self.call(input);
         }
-        // The parenthesis was recognised as a token, so it is one byte.
-        input.consume(1, false);
-        self.open_list(call)?;
+        // The parenthesis was recognised as a token, so it is one byte, and no newline.
+        input.consume(1, true);
         Ok(Turned::GoesOn)
     }
 

@@ -2,9 +2,9 @@ use Rattle.std.proofs.Common.{◌≡◌, ◌<◌, ◌≤◌, ℕ, List, [], true
 use Rattle.std.proofs.lemmas.List.{nil_from_length}
 use Rattle.m4_engine.proofs.OnlyGrows.{output_stays}
 use Rattle.m4_engine.proofs.Running.{begins_so, begins_past, passed, went_on, went_past_line, fell}
-use Rattle.m4_engine.proofs.Begins.{due_none, due_all, nothing_begun}
-use Rattle.m4_engine.proofs.Running.{fell_past_line, ended, needed, needs_line_after, breaks, write_breaks}
-use Rattle.m4_engine.proofs.Running.{write_breaks_in_order, lack_breaks_in_order, in_order_end, needs_line}
+use Rattle.m4_engine.proofs.Begins.{due_none, due_all}
+use Rattle.m4_engine.proofs.Running.{fell_past_line, ended, needed, needs_line_after, write_breaks}
+use Rattle.m4_engine.proofs.Running.{write_breaks_in_order, in_order_end, needs_line}
 use Rattle.m4_engine.proofs.Running.{line_done_by, hand_ends, lack_gives, lack_gives_in_order, lack_counted}
 use Rattle.m4_engine.proofs.Passing.{passes_ready}
 use Rattle.m4_engine.specs.Engine.{Engine}
@@ -19,29 +19,19 @@ pass_plain-requires g c = c.turns.invariant.runs.ready
 
 pub turn-requires : goal.turn-requires
 turn-requires g c = record {
-  ready = passes_ready c.turns.self c.pass_plain.new.self c.turns.input c.pass_plain.new.input c.turns.invariant.runs.ready c.in-Ok-pass_plain.ensures.passes;
-  lookahead = c.in-Ok-pass_plain.ensures.lookahead;
+  ready = passes_ready c.turns.self c.pass_plain.new.self c.turns.input c.pass_plain.new.input c.turns.invariant.runs.ready c.in-Ok.ensures.passes;
+  lookahead = c.in-Ok.ensures.lookahead;
 }
 
--- there is no memory for the next call
-pub returns-in_default-clause-gives : goal.returns-in_default-clause-gives
-returns-in_default-clause-gives g c = breaks c.args.wanted c.args.self.now c.args.self.now c.args.input.now.pending c.in_default.input _ _ _ _ _ (elim c.in_default.branch [
-  | in_default-via-in-Token-1 w ↦ begins_so c.args.self.now c.args.input.now c.in_default.input c.args.wanted _ _ (search rules) (search rules) c.requires.ready c.requires.flushed
-  | in_default-via-in-Line+else-not-skip_in_hand w ↦ begins_past c.args.self.now c.args.input.now w.skip_in_hand.new.self c.in_default.input
-      c.args.wanted _ _ (search rules) (search rules) c.requires.ready c.requires.flushed
-      (line_done_by c.args.input.now w.skip_in_hand.new.self w.skip_in_hand.result true
-      (search rules) w.skip_in_hand.ensures)
-]) (nothing_begun _ _)
-
 -- a pass or a turn had no memory: what was buffered before it was given out
-pub returns-in_default-pass_plain-clause-gives : goal.returns-in_default-pass_plain-clause-gives
-returns-in_default-pass_plain-clause-gives g c = lack_gives c.args.wanted c.args.self.now c.turns.self c.pass_plain.new.self
+pub returns-in_default-clause-gives : goal.returns-in_default-clause-gives
+returns-in_default-clause-gives g c = lack_gives c.args.wanted c.args.self.now c.turns.self c.pass_plain.new.self
     c.pass_plain.new.self c.args.input.now c.turns.input c.pass_plain.new.input c.len-made.result _ _ _ _ _ c.give_out.result
-    c.turns.invariant.runs (search rules) c.in_default-pass_plain.ensures.kept c.give_out.ensures.gives
+    c.turns.invariant.runs (search rules) c.in_default-2.ensures.kept c.give_out.ensures.gives
 
 pub returns-in_default-turn-clause-gives : goal.returns-in_default-turn-clause-gives
 returns-in_default-turn-clause-gives g c =
-    let r = passed c.args.wanted c.args.self.now c.turns.self c.pass_plain.new.self c.args.input.now.pending c.turns.input c.pass_plain.new.input _ _ _ _ c.turns.invariant.runs c.in-Ok-pass_plain.ensures.passes in
+    let r = passed c.args.wanted c.args.self.now c.turns.self c.pass_plain.new.self c.args.input.now.pending c.turns.input c.pass_plain.new.input _ _ _ _ c.turns.invariant.runs c.in-Ok.ensures.passes in
     lack_gives c.args.wanted c.args.self.now c.pass_plain.new.self c.turn.new.self c.turn.new.self
     c.args.input.now c.pass_plain.new.input c.turn.new.input c.len-earlier.result _ _ _ _ _ c.give_out-in_default-turn.result
     r (search rules) c.in_default-turn.ensures.kept c.give_out-in_default-turn.ensures.gives
@@ -70,18 +60,18 @@ turns-init g c = record {
 
 pub returns-in-Err-clause-gives : goal.returns-in-Err-clause-gives
 returns-in-Err-clause-gives g c =
-    let r = passed c.args.wanted c.args.self.now c.turns.self c.pass_plain.new.self c.args.input.now.pending c.turns.input c.pass_plain.new.input _ _ _ _ c.turns.invariant.runs c.in-Ok-pass_plain.ensures.passes in
+    let r = passed c.args.wanted c.args.self.now c.turns.self c.pass_plain.new.self c.args.input.now.pending c.turns.input c.pass_plain.new.input _ _ _ _ c.turns.invariant.runs c.in-Ok.ensures.passes in
     write_breaks c.args.wanted c.args.self.now c.pass_plain.new.self c.turn.new.self c.args.input.now.pending c.pass_plain.new.input c.turn.new.input c.in-Ok-turn.turned _ _ _ _ _ _ r c.in-Ok-turn.ensures.turns.moves c.in-Ok-turn.ensures.turns.made c.in-Err.ensures.begun
 
 pub turns-smaller-in-turns : goal.turns-smaller-in-turns
 turns-smaller-in-turns g c = fell c.turns.self c.pass_plain.new.self c.turn.new.self
     c.turn.new.self c.turns.input c.pass_plain.new.input c.turn.new.input _ _ _ _ c.in-Ok-turn.turned
-    c.in-Ok-pass_plain.ensures.passes c.in-Ok-turn.ensures.turns.moves c.in-Ok-turn.ensures.turns.ready c.in-GoesOn.is
+    c.in-Ok.ensures.passes c.in-Ok-turn.ensures.turns.moves c.in-Ok-turn.ensures.turns.ready c.in-GoesOn.is
     (due_none c.turn.new.self (g.O.ByteSink.contents c.turns.out) (g.M.ByteSink.contents c.turns.messages))
 
 pub turns-preserved-in-turns : goal.turns-preserved-in-turns
 turns-preserved-in-turns g c =
-    let r = passed c.args.wanted c.args.self.now c.turns.self c.pass_plain.new.self c.args.input.now.pending c.turns.input c.pass_plain.new.input _ _ _ _ c.turns.invariant.runs c.in-Ok-pass_plain.ensures.passes in
+    let r = passed c.args.wanted c.args.self.now c.turns.self c.pass_plain.new.self c.args.input.now.pending c.turns.input c.pass_plain.new.input _ _ _ _ c.turns.invariant.runs c.in-Ok.ensures.passes in
     record {
       runs = went_on c.args.wanted c.args.self.now c.pass_plain.new.self c.turn.new.self c.turn.new.self
           c.args.input.now.pending c.pass_plain.new.input c.turn.new.input _ _ _ _ _ _ c.in-Ok-turn.turned r
@@ -96,12 +86,12 @@ turns-preserved-in-turns g c =
 pub turns-smaller-in-GoesOn-turned : goal.turns-smaller-in-GoesOn-turned
 turns-smaller-in-GoesOn-turned g c = fell c.turns.self c.pass_plain.new.self c.turn.new.self
     c.flush.new.self c.turns.input c.pass_plain.new.input c.turn.new.input _ _ _ _ c.in-Ok-turn.turned
-    c.in-Ok-pass_plain.ensures.passes c.in-Ok-turn.ensures.turns.moves c.in-Ok-turn.ensures.turns.ready c.in-GoesOn-turned.is
+    c.in-Ok.ensures.passes c.in-Ok-turn.ensures.turns.moves c.in-Ok-turn.ensures.turns.ready c.in-GoesOn-turned.is
     (due_all c.turn.new.self c.flush.new.self _ _ _ _ c.in_default-flush.ensures.engine c.in_default-flush.ensures.output c.in_default-flush.ensures.messages)
 
 pub turns-preserved-in-GoesOn-turned : goal.turns-preserved-in-GoesOn-turned
 turns-preserved-in-GoesOn-turned g c =
-    let r = passed c.args.wanted c.args.self.now c.turns.self c.pass_plain.new.self c.args.input.now.pending c.turns.input c.pass_plain.new.input _ _ _ _ c.turns.invariant.runs c.in-Ok-pass_plain.ensures.passes in
+    let r = passed c.args.wanted c.args.self.now c.turns.self c.pass_plain.new.self c.args.input.now.pending c.turns.input c.pass_plain.new.input _ _ _ _ c.turns.invariant.runs c.in-Ok.ensures.passes in
     record {
       runs = went_on c.args.wanted c.args.self.now c.pass_plain.new.self c.turn.new.self c.flush.new.self
           c.args.input.now.pending c.pass_plain.new.input c.turn.new.input _ _ _ _ _ _ c.in-Ok-turn.turned r
@@ -121,7 +111,7 @@ flush-requires g c =
 
 pub returns-then-not-skip_in_hand-2-clause-gives : goal.returns-then-not-skip_in_hand-2-clause-gives
 returns-then-not-skip_in_hand-2-clause-gives g c =
-    let r = passed c.args.wanted c.args.self.now c.turns.self c.pass_plain.new.self c.args.input.now.pending c.turns.input c.pass_plain.new.input _ _ _ _ c.turns.invariant.runs c.in-Ok-pass_plain.ensures.passes in
+    let r = passed c.args.wanted c.args.self.now c.turns.self c.pass_plain.new.self c.args.input.now.pending c.turns.input c.pass_plain.new.input _ _ _ _ c.turns.invariant.runs c.in-Ok.ensures.passes in
     needs_line_after c.args.wanted c.args.self.now c.pass_plain.new.self c.turn.new.self c.flush.new.self
     c.args.input.now.pending c.args.input.now c.pass_plain.new.input c.turn.new.input c.skip_in_hand-in-SkipsLine.new.self _ _
     _ _ _ _ c.in-Ok-turn.turned refl r c.in-Ok-turn.ensures.turns.moves c.in-Ok-turn.ensures.turns.ready c.in-SkipsLine.is
@@ -132,7 +122,7 @@ returns-then-not-skip_in_hand-2-clause-gives g c =
 
 pub turns-smaller : goal.turns-smaller
 turns-smaller g c = fell_past_line c.turns.self c.pass_plain.new.self c.turn.new.self c.flush.new.self c.turns.input
-    c.pass_plain.new.input c.turn.new.input c.skip_in_hand-in-SkipsLine.new.self _ _ _ _ c.in-Ok-turn.turned c.in-Ok-pass_plain.ensures.passes
+    c.pass_plain.new.input c.turn.new.input c.skip_in_hand-in-SkipsLine.new.self _ _ _ _ c.in-Ok-turn.turned c.in-Ok.ensures.passes
     c.in-Ok-turn.ensures.turns.moves c.in-Ok-turn.ensures.turns.ready c.in-SkipsLine.is
     (due_all c.turn.new.self c.flush.new.self _ _ _ _ c.in_default-flush.ensures.engine
     c.in_default-flush.ensures.output c.in_default-flush.ensures.messages)
@@ -141,7 +131,7 @@ turns-smaller g c = fell_past_line c.turns.self c.pass_plain.new.self c.turn.new
 
 pub turns-preserved : goal.turns-preserved
 turns-preserved g c =
-    let r = passed c.args.wanted c.args.self.now c.turns.self c.pass_plain.new.self c.args.input.now.pending c.turns.input c.pass_plain.new.input _ _ _ _ c.turns.invariant.runs c.in-Ok-pass_plain.ensures.passes in
+    let r = passed c.args.wanted c.args.self.now c.turns.self c.pass_plain.new.self c.args.input.now.pending c.turns.input c.pass_plain.new.input _ _ _ _ c.turns.invariant.runs c.in-Ok.ensures.passes in
     record {
       runs = went_past_line c.args.wanted c.args.self.now c.pass_plain.new.self c.turn.new.self c.flush.new.self
           c.args.input.now.pending c.pass_plain.new.input c.turn.new.input c.skip_in_hand-in-SkipsLine.new.self _ _ _ _ _ _
@@ -159,7 +149,7 @@ turns-preserved g c =
 
 pub returns-in-NeedsMore-clause-gives : goal.returns-in-NeedsMore-clause-gives
 returns-in-NeedsMore-clause-gives g c =
-    let r = passed c.args.wanted c.args.self.now c.turns.self c.pass_plain.new.self c.args.input.now.pending c.turns.input c.pass_plain.new.input _ _ _ _ c.turns.invariant.runs c.in-Ok-pass_plain.ensures.passes in
+    let r = passed c.args.wanted c.args.self.now c.turns.self c.pass_plain.new.self c.args.input.now.pending c.turns.input c.pass_plain.new.input _ _ _ _ c.turns.invariant.runs c.in-Ok.ensures.passes in
     needed c.args.wanted c.args.self.now c.pass_plain.new.self c.turn.new.self c.flush.new.self
     c.args.input.now.pending c.args.input.now c.pass_plain.new.input c.turn.new.input _ _ _ _ _ _
     c.in-Ok-turn.turned refl r c.in-Ok-turn.ensures.turns.made c.in-NeedsMore.is c.in_default-flush.ensures.engine
@@ -167,7 +157,7 @@ returns-in-NeedsMore-clause-gives g c =
 
 pub returns-in-Ends-clause-gives : goal.returns-in-Ends-clause-gives
 returns-in-Ends-clause-gives g c =
-    let r = passed c.args.wanted c.args.self.now c.turns.self c.pass_plain.new.self c.args.input.now.pending c.turns.input c.pass_plain.new.input _ _ _ _ c.turns.invariant.runs c.in-Ok-pass_plain.ensures.passes in
+    let r = passed c.args.wanted c.args.self.now c.turns.self c.pass_plain.new.self c.args.input.now.pending c.turns.input c.pass_plain.new.input _ _ _ _ c.turns.invariant.runs c.in-Ok.ensures.passes in
     hand_ends c.args.wanted c.args.self.now c.flush.new.self c.args.input.now c.turn.new.input _ c.in-Ends.end _ c.cause.ensures
     (ended c.args.wanted c.args.self.now c.pass_plain.new.self c.turn.new.self c.flush.new.self
     c.args.input.now.pending c.turn.new.input.pending c.pass_plain.new.input _ _ _ _ _ _ c.in-Ok-turn.turned
@@ -176,7 +166,7 @@ returns-in-Ends-clause-gives g c =
 
 pub returns-in-Err-clause-order : goal.returns-in-Err-clause-order
 returns-in-Err-clause-order g c =
-    let r = passed c.args.wanted c.args.self.now c.turns.self c.pass_plain.new.self c.args.input.now.pending c.turns.input c.pass_plain.new.input _ _ _ _ c.turns.invariant.runs c.in-Ok-pass_plain.ensures.passes in
+    let r = passed c.args.wanted c.args.self.now c.turns.self c.pass_plain.new.self c.args.input.now.pending c.turns.input c.pass_plain.new.input _ _ _ _ c.turns.invariant.runs c.in-Ok.ensures.passes in
     write_breaks_in_order c.args.wanted c.args.self.now c.pass_plain.new.self c.turn.new.self c.args.input.now.pending
     c.pass_plain.new.input c.turn.new.input c.in-Ok-turn.turned c.len-earlier.result _ _ _ _ _ _ r
     c.in-Ok-turn.ensures.turns.moves c.in-Ok-turn.ensures.turns.made (search rules) c.in-Err.ensures.order
@@ -185,30 +175,20 @@ returns-in-Err-clause-order g c =
 pub returns-in-Ends-clause-order : goal.returns-in-Ends-clause-order
 returns-in-Ends-clause-order g c = rw c.cause.ensures (in_order_end c.args.wanted c.args.self.now c.args.input.now.pending _ c.in-Ends.end)
 
--- there was no memory for the next call, and nothing was buffered
 pub returns-in_default-clause-order : goal.returns-in_default-clause-order
-returns-in_default-clause-order g c = lack_breaks_in_order c.args.wanted c.args.self.now c.args.self.now c.args.input.now.pending c.in_default.input _ _ _ _ _ (elim c.in_default.branch [
-  | in_default-via-in-Token-1 w ↦ begins_so c.args.self.now c.args.input.now c.in_default.input c.args.wanted _ _ (search rules) (search rules) c.requires.ready c.requires.flushed
-  | in_default-via-in-Line+else-not-skip_in_hand w ↦ begins_past c.args.self.now c.args.input.now w.skip_in_hand.new.self c.in_default.input
-      c.args.wanted _ _ (search rules) (search rules) c.requires.ready c.requires.flushed
-      (line_done_by c.args.input.now w.skip_in_hand.new.self w.skip_in_hand.result true
-      (search rules) w.skip_in_hand.ensures)
-]) (nothing_begun _ _)
-
-pub returns-in_default-pass_plain-clause-order : goal.returns-in_default-pass_plain-clause-order
-returns-in_default-pass_plain-clause-order g c = lack_gives_in_order c.args.wanted c.args.self.now c.turns.self
+returns-in_default-clause-order g c = lack_gives_in_order c.args.wanted c.args.self.now c.turns.self
     c.pass_plain.new.self c.args.input.now.pending c.turns.input c.len-made.result _ _ _ _ _ c.give_out.result
-    c.turns.invariant.runs (search rules) c.in_default-pass_plain.ensures.kept c.give_out.ensures.gives
+    c.turns.invariant.runs (search rules) c.in_default-2.ensures.kept c.give_out.ensures.gives
 
 pub returns-in_default-turn-clause-order : goal.returns-in_default-turn-clause-order
 returns-in_default-turn-clause-order g c =
-    let r = passed c.args.wanted c.args.self.now c.turns.self c.pass_plain.new.self c.args.input.now.pending c.turns.input c.pass_plain.new.input _ _ _ _ c.turns.invariant.runs c.in-Ok-pass_plain.ensures.passes in
+    let r = passed c.args.wanted c.args.self.now c.turns.self c.pass_plain.new.self c.args.input.now.pending c.turns.input c.pass_plain.new.input _ _ _ _ c.turns.invariant.runs c.in-Ok.ensures.passes in
     lack_gives_in_order c.args.wanted c.args.self.now c.pass_plain.new.self c.turn.new.self c.args.input.now.pending
     c.pass_plain.new.input c.len-earlier.result _ _ _ _ _ c.give_out-in_default-turn.result
     r (search rules) c.in_default-turn.ensures.kept c.give_out-in_default-turn.ensures.gives
 
-pub returns-in_default-pass_plain-clause-counted : goal.returns-in_default-pass_plain-clause-counted
-returns-in_default-pass_plain-clause-counted g c = lack_counted _ _ _ c.give_out.result _ _ _ _ _ c.give_out.ensures.gives
+pub returns-in_default-clause-counted : goal.returns-in_default-clause-counted
+returns-in_default-clause-counted g c = lack_counted _ _ _ c.give_out.result _ _ _ _ _ c.give_out.ensures.gives
     c.give_out.ensures.counted c.turns.invariant.out c.turns.invariant.reported
 
 pub returns-in_default-turn-clause-counted : goal.returns-in_default-turn-clause-counted

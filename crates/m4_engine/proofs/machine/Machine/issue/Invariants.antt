@@ -1,4 +1,4 @@
-use Rattle.std.proofs.Common.{◌≡◌, length, None, []}
+use Rattle.std.proofs.Common.{◌≡◌, ◌≤◌, length}
 use Rattle.m4_engine.specs.MachineView.{engine_view}
 use Rattle.m4_engine.proofs.Issues.{Issuing}
 use Rattle.m4_engine.proofs.machine.Machine.issue.Given as goal
@@ -8,7 +8,7 @@ abbrev pub invariant-loop-text : goal.invariant-loop-text
 invariant-loop-text g l = record {
   issuing : Issuing l.fn.self.state l.self-inside.state (g.O.ByteSink.contents l.fn.out) (g.O.ByteSink.contents l.out);
   rest : engine_view l.self-inside ≡ record l.fn.self { state = l.self-inside.state };
-  nested : l.self-inside.innermost ≡ None → l.self-inside.outer.items ≡ [];
+  nested : l.self-inside.depth ≤ length l.self-inside.stack.items;
   sound : g.O.ByteSink.failures l.out ≡ g.O.ByteSink.failures l.fn.out;
 }
 

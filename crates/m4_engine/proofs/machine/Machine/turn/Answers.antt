@@ -1,4 +1,4 @@
-use Rattle.std.proofs.Common.{◌≡◌, ◌∙◌, List, [], ℕ, None, Some, false, rules, sym, ap, subst, take}
+use Rattle.std.proofs.Common.{◌≡◌, ◌∙◌, List, [], ℕ, None, Some, Bool, true, false, refl, rules, sym, ap, subst, take}
 use Rattle.m4_state.specs.declared.definition.Def.TheVariants.{Text}
 use Rattle.m4_input.specs.declared.pushed.Pushed.TheVariants as pushes
 use Rattle.m4_engine.specs.Turns.{Pushes}
@@ -8,13 +8,14 @@ use Rattle.m4_engine.proofs.Bare.{expanded_goes, text_goes}
 use Rattle.m4_input.specs.Paren.{paren_at}
 use Rattle.m4_input.specs.declared.token.Token.TheVariants.{Name, Byte}
 use Rattle.m4_input.proofs.Names.{name_has_none}
-use Rattle.std.specs.Prelude.{Ok}
+use Rattle.std.specs.Prelude.{Ok, not}
+use Rattle.m4_input.proofs.Scanned.{byte_first}
 use Rattle.m4_engine.specs.declared.turned.Turned.TheVariants as turns
 use Rattle.m4_engine.specs.declared.lookahead.Lookahead.{Lookahead}
 use Rattle.m4_engine.specs.Engine.{Engine, with_made}
 use Rattle.m4_engine.specs.Passes.{IsLookahead}
 use Rattle.m4_engine.proofs.Fronts.{at_error, front_same}
-use Rattle.m4_engine.proofs.Seen.{room_allows, list_there, expansion_moves, line_skips}
+use Rattle.m4_engine.proofs.Seen.{byte_has_none, room_allows, list_there, expansion_moves, line_skips}
 use Rattle.m4_engine.proofs.Turning.{found_steps_at, end_turn, broken_turn, undecided_turn}
 use Rattle.m4_engine.proofs.machine.Machine.turn.Goals as goal
 
@@ -24,6 +25,18 @@ returns-in-Byte-clause-turns c =
     let d = c.args.next.now in
     let h = subst (λ (v : Lookahead). IsLookahead v d e c.args.input.now.pending) c.in-Byte.is c.requires.lookahead in
     found_steps_at e c.take_byte.new.self (Byte c.in-Byte.byte) 1 c.args.input.now c.consume.new.self c.take_byte.new.input c.take_byte.result h.0 h.1.0 c.consume.ensures c.take_byte.ensures.steps.moves c.take_byte.ensures.steps
+
+not_so : (v : Bool) → not v ≡ true → v ≡ false
+not_so true h = cc
+not_so false h = refl
+
+-- the newlines are counted if the byte is one
+pub consume-requires-clause-inline : goal.consume-requires-clause-inline
+consume-requires-clause-inline c = λ u.
+    let e = c.args.self.now in
+    let p = c.args.input.now.pending in
+    let h = subst (λ (v : Lookahead). IsLookahead v c.args.next.now e p) c.in-Byte.is c.requires.lookahead in
+    byte_has_none c.in-Byte.byte (text_of p) (byte_first e.state.quotes e.state.comments p.may_follow (text_of p) c.in-Byte.byte 1 h.1.0) (not_so _ u)
 
 text_same : (x y : List ℕ) → Text x ≡ Text y → x ≡ y
 text_same x y e = cc
