@@ -68,11 +68,17 @@ fn are_sorted(entries: &Entries, run: &[Ranked]) -> bool
     ensures { result ≡ true → IsSortedBy (λ x y. is_lt (byte_order (name_at entries.now.entries x.place)
         (name_at entries.now.entries y.place))) run.now }
 {
+    let Some(first) = run.first() else {
+        return true;
+    };
+    let mut last = rank_of(name_of(entries, first), 0);
     let mut k = 1;
     while k < run.len() {
-        if order_at(entries, &run[k], &run[k - 1]).is_lt() {
+        let rank = rank_of(name_of(entries, &run[k]), 0);
+        if rank < last || rank == last && order_at(entries, &run[k], &run[k - 1]).is_lt() {
             return false;
         }
+        last = rank;
         k += 1;
     }
     true
