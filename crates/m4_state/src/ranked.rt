@@ -3,7 +3,7 @@
 //! Beside the place of an entry are eight bytes of its name, as one number. Where these differ, they decide, and a
 //! comparison follows no pointer to a name.
 
-ghost use Rattle.std.specs.Prelude.{◌≡◌, ◌≢◌, ◌<◌, ◌≤◌, length, take, drop, map};
+ghost use Rattle.std.specs.Prelude.{◌≡◌, ◌≢◌, ◌<◌, ◌≤◌, true, length, take, drop, map};
 ghost use Rattle.std.specs.List.{All, AllWithin, HoldsAt};
 ghost use Rattle.std.specs.List.Sorted.{IsPermutation, IsSortedBy};
 ghost use Rattle.std.specs.Ordering.{is_lt};
@@ -45,6 +45,10 @@ pub(crate) fn sort_by_names(entries: &Entries, run: &mut [Ranked], depth: u32)
         run.sort_unstable_by(|a, b| order_at(entries, a, b));
         return;
     }
+    // The names of a canonical frozen file are in order already.
+    if are_sorted(entries, run) {
+        return;
+    }
     let first = name_of(entries, &run[0]);
     let front = common_front(entries, first, run);
     rank_each(entries, run, front);
@@ -57,6 +61,27 @@ pub(crate) fn sort_by_names(entries: &Entries, run: &mut [Ranked], depth: u32)
         }
         at = end;
     }
+}
+
+/// Returns whether entries are sorted by their names.
+fn are_sorted(entries: &Entries, run: &[Ranked]) -> bool
+    ensures { result ≡ true → IsSortedBy (λ x y. is_lt (byte_order (name_at entries.now.entries x.place)
+        (name_at entries.now.entries y.place))) run.now }
+{
+    let Some(first) = run.first() else {
+        return true;
+    };
+    let mut last = rank_of(name_of(entries, first), 0);
+    let mut k = 1;
+    while k < run.len() {
+        let rank = rank_of(name_of(entries, &run[k]), 0);
+        if rank < last || rank == last && order_at(entries, &run[k], &run[k - 1]).is_lt() {
+            return false;
+        }
+        last = rank;
+        k += 1;
+    }
+    true
 }
 
 /// Returns where the elements of this rank end.

@@ -5,6 +5,7 @@ use Rattle.std.specs.Cmp.{nat_cmp_total}
 use Rattle.std.specs.Cmp.Lexicographic.{nat_list_cmp_total}
 use Rattle.std.proofs.lemmas.List.{get_or_default}
 use Rattle.std.proofs.lemmas.List.Sorted.{ranks_by, answers_always, IsPermutation-map, IsPermutation-trans}
+use Rattle.std.proofs.lemmas.List.Sorted.{IsPermutation-refl}
 use Rattle.std.proofs.lemmas.Fn.{always_returns_same}
 use Rattle.m4_state.specs.ByteWords.{BeginsAlike, IsRank}
 use Rattle.m4_state.specs.Entries.{name_at}
@@ -23,6 +24,10 @@ returns-then-run-lt-FEW-clause-sorted t c =
     let es = c.args.entries.now.entries in
     c.sort_unstable_by.ensures.sorted (λ x y. before es x.place y.place)
     (ranks_by nat_list_cmp_total (λ (x : Ranked). name_at es x.place)) (always_returns_same _ _ _ (λ a r f k. search rules))
+
+-- they were sorted
+pub returns-then-are_sorted-clause-permutation : goal.returns-then-are_sorted-clause-permutation
+returns-then-are_sorted-clause-permutation t c = IsPermutation-refl (map (λ (r : Ranked). r.place) c.args.run.now)
 
 -- the run of one rank was sorted
 pub loop-at-preserved-then-end-at-gt1 : goal.loop-at-preserved-then-end-at-gt1
