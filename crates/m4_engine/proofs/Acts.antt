@@ -42,7 +42,16 @@ popped cs v = pop Expansion Kept Ended turn join (outer_of cs) v
 -- the call is a token of the argument around it
 around : (a : Acted) (o m : List ℕ) (limits : Limits) (s : State) (saved : List (List ℕ)) (n : ℕ) (cs : List Call)
     (output messages : List ℕ) (p p' : Pending)
-    → let e : Engine = record { limits = limits; state = s; saved = saved; calls = n; open_calls = cs; output = output; messages = messages } in let c : Stacked Expansion Kept = record { outer = outer_of cs; here = reading p' (after a o m e p) } in c
+    → let e : Engine = record {
+      limits = limits;
+      state = s;
+      saved = saved;
+      calls = n;
+      open_calls = cs;
+      output = output;
+      messages = messages;
+    } in let c : Stacked Expansion Kept =
+    record { outer = outer_of cs; here = reading p' (after a o m e p) } in c
     ≡ configuration o m
     (with_made (a.effect).messages (a.effect).output (a.effect).wrap (record e { state = a.state })) p'
 around a o m limits s saved n [] output messages p p' = rw (append_assoc o output (a.effect).output, append_assoc m messages (a.effect).messages) refl
@@ -51,7 +60,9 @@ around a o m limits s saved n (c ∷ cs) output messages p p' = rw (append_assoc
 abbrev effect_at : Acted → List ℕ → List ℕ → Engine → Pending → Outcome Expansion Ended
 effect_at a o m e p = effected (a.effect).exit (a.effect).skip (a.effect).push (after a o m e p)
 
-called_is : (e : Engine) (c : Call) (a : Acted) (p : Pending) (o m : List ℕ) → act c.definition c.name c.done c.place e.state ≡ a → called_within e.open_calls c (here_of o m e p) ≡ popped e.open_calls (effect_at a o m e p)
+called_is : (e : Engine) (c : Call) (a : Acted) (p : Pending) (o m : List ℕ)
+    → act c.definition c.name c.done c.place e.state ≡ a
+    → called_within e.open_calls c (here_of o m e p) ≡ popped e.open_calls (effect_at a o m e p)
 called_is e c a p o m h = ap (λ (a : Acted). popped e.open_calls (effect_at a o m e p)) h
 
 -- what a call made was added, and then the argument around it begun
@@ -60,9 +71,30 @@ pub made_and_begun : (e : Engine) (s : State) (v : Effect) (messages output : Li
     → with_made [] [] None (record e { state = s; messages = messages; output = output; saved = saved })
     ≡ with_made v.messages v.output v.wrap (record e { state = s })
 made_and_begun e s v messages output saved h i j =
-    ap (λ (x : List ℕ). let d : Engine = record e { state = s; output = x; messages = messages ++ []; saved = saved; open_calls = begun_in e.open_calls } in d) (append-nil output ∙ i)
-    ∙ ap (λ (x : List ℕ). let d : Engine = record e { state = s; output = e.output ++ v.output; messages = x; saved = saved; open_calls = begun_in e.open_calls } in d) (append-nil messages ∙ h)
-    ∙ ap (λ (x : List (List ℕ)). let d : Engine = record e { state = s; output = e.output ++ v.output; messages = e.messages ++ v.messages; saved = x; open_calls = begun_in e.open_calls } in d) j
+    ap (λ (x : List ℕ). let d : Engine =
+    record e {
+      state = s;
+      output = x;
+      messages = messages ++ [];
+      saved = saved;
+      open_calls = begun_in e.open_calls;
+    } in d) (append-nil output ∙ i)
+    ∙ ap (λ (x : List ℕ). let d : Engine =
+    record e {
+      state = s;
+      output = e.output ++ v.output;
+      messages = x;
+      saved = saved;
+      open_calls = begun_in e.open_calls;
+    } in d) (append-nil messages ∙ h)
+    ∙ ap (λ (x : List (List ℕ)). let d : Engine =
+    record e {
+      state = s;
+      output = e.output ++ v.output;
+      messages = e.messages ++ v.messages;
+      saved = x;
+      open_calls = begun_in e.open_calls;
+    } in d) j
 
 -- the same of a call that was the innermost
 pub made_closed : (old e new : Engine) (c : Call) (s : State) (v : Effect) (cs : List Call) (messages output : List ℕ)
@@ -72,8 +104,10 @@ pub made_closed : (old e new : Engine) (c : Call) (s : State) (v : Effect) (cs :
     → new ≡ with_made v.messages v.output v.wrap (record e { state = s })
 made_closed old e new c s v cs messages output saved h k f g i n =
     n
-    ∙ ap (λ (x : Engine). with_made [] [] None (let d : Engine = record x { state = s; open_calls = cs; messages = messages; output = output; saved = saved } in d)) h
-    ∙ ap (λ (x : List Call). with_made [] [] None (let d : Engine = record e { state = s; open_calls = x; messages = messages; output = output; saved = saved } in d)) k
+    ∙ ap (λ (x : Engine). with_made [] [] None
+    (let d : Engine = record x { state = s; open_calls = cs; messages = messages; output = output; saved = saved } in d)) h
+    ∙ ap (λ (x : List Call). with_made [] [] None
+    (let d : Engine = record e { state = s; open_calls = x; messages = messages; output = output; saved = saved } in d)) k
     ∙ made_and_begun e s v messages output saved
     (f ∙ ap (λ (x : Engine). x.messages ++ v.messages) h)
     (g ∙ ap (λ (x : Engine). x.output ++ v.output) h)
@@ -116,7 +150,9 @@ called_exits e e1 c a p code h x i o m =
     called_is e c a p o m h
     ∙ ap (λ v. popped e.open_calls (effected v (a.effect).skip (a.effect).push (after a o m e p))) x
     ∙ ap (λ (r : RunSoFar). Stops (Halted (let d : Ended = record { so_far = r; reason = Ends (causes.Exited code) } in d)))
-    (ap (λ (k : Stacked Expansion Kept). (k.here).so_far) (around a o m e.limits e.state e.saved e.calls e.open_calls e.output e.messages p p) ∙ ap (λ (d : Engine). so_far_of o m d) (sym i))
+    (ap (λ (k : Stacked Expansion Kept). (k.here).so_far)
+    (around a o m e.limits e.state e.saved e.calls e.open_calls e.output e.messages p p)
+    ∙ ap (λ (d : Engine). so_far_of o m d) (sym i))
 
 abbrev head_or : Call → List Call → Call
 head_or c [] = c
@@ -136,9 +172,12 @@ joined_is : (d : Call) (ds : List Call) (o m : List ℕ) (e : Engine) (p : Pendi
     ≡ called_within ds (with_argument d)
     (here_of o m (record e { messages = e.messages ++ dropped_if_any d.place d.bytes d.tokens; open_calls = ds })
     p)
-joined_is d ds o m e p s h = ap (λ (s : Expansion). step (kept_in ds ∷ outer_of ds) (Close (end_argument d s))) h ∙ (rw (append_assoc m e.messages (dropped_if_any d.place d.bytes d.tokens)) refl)
+joined_is d ds o m e p s h = ap (λ (s : Expansion). step (kept_in ds ∷ outer_of ds) (Close (end_argument d s))) h
+    ∙ (rw (append_assoc m e.messages (dropped_if_any d.place d.bytes d.tokens)) refl)
 
-closing_in : (cs : List Call) (e e2 : Engine) (c : Call) (p : Pending) → ending_in cs e ≡ with_open_call c e2 → e.open_calls ≡ cs → (o m : List ℕ) → step (outer_of cs) (close_in cs (here_of o m e p)) ≡ called_within e2.open_calls c (here_of o m e2 p)
+closing_in : (cs : List Call) (e e2 : Engine) (c : Call) (p : Pending) → ending_in cs e ≡ with_open_call c e2
+    → e.open_calls ≡ cs → (o m : List ℕ)
+    → step (outer_of cs) (close_in cs (here_of o m e p)) ≡ called_within e2.open_calls c (here_of o m e2 p)
 closing_in [] e e2 c p h i o m =
     let f : [] ≡ c ∷ e2.open_calls = sym i ∙ ap (λ (x : Engine). x.open_calls) h in
     cc
@@ -150,14 +189,18 @@ closing_in (d ∷ ds) e e2 c p h i o m =
     ∙ ap (λ (x : Call). called_within ds x (here_of o m e1 p)) f
     ∙ ap (λ (x : Engine). called_within x.open_calls c (here_of o m x p)) g
 
-pub moves_by : (may : Bool) (e : Engine) (p : Pending) (t : Turned) (f g : Moving) → ((z : List ℕ) (more : Bool) → MayFollow may z more → (o m : List ℕ) → g z more o m ≡ f z more o m) → Moves may e p t f → Moves may e p t g
+pub moves_by : (may : Bool) (e : Engine) (p : Pending) (t : Turned) (f g : Moving)
+    → ((z : List ℕ) (more : Bool) → MayFollow may z more → (o m : List ℕ) → g z more o m ≡ f z more o m)
+    → Moves may e p t f → Moves may e p t g
 moves_by may e p turns.GoesOn f g h k = λ z more c o m. h z more c o m ∙ k z more c o m
 moves_by may e p turns.SkipsLine f g h k = λ z more c o m. h z more c o m ∙ k z more c o m
 moves_by may e p turns.NeedsMore f g h k = tt
 moves_by may e p (turns.Ends cause) f g h k = λ z more c o m. h z more c o m ∙ k z more c o m
 
 -- the same of an answer
-pub result_by : (may : Bool) (e : Engine) (p : Pending) (r : Result Turned TurnFault) (f g : Moving) → ((z : List ℕ) (more : Bool) → MayFollow may z more → (o m : List ℕ) → g z more o m ≡ f z more o m) → IfOk r (λ t. Moves may e p t f) → IfOk r (λ t. Moves may e p t g)
+pub result_by : (may : Bool) (e : Engine) (p : Pending) (r : Result Turned TurnFault) (f g : Moving)
+    → ((z : List ℕ) (more : Bool) → MayFollow may z more → (o m : List ℕ) → g z more o m ≡ f z more o m)
+    → IfOk r (λ t. Moves may e p t f) → IfOk r (λ t. Moves may e p t g)
 result_by may e p (Ok t) f g h k = moves_by may e p t f g h k
 result_by may e p (Err x) f g h k = tt
 
@@ -184,7 +227,9 @@ pub closing_byte : (e old e1 : Engine) (i j : Held) (r : Result Turned TurnFault
 closing_byte e old e1 i j r d ds b g h k n s =
     let t = subst (λ (x : Engine). StepsBy r x e1 i j (λ s. step (outer_of x.open_calls) (close_in x.open_calls s))) g s in
     record {
-      moves = result_by (i.pending).may_follow e1 j.pending r _ _ (λ z more u o m. ap (λ (v : Turn Expansion Kept Ended). step (outer_of e.open_calls) v) (closed_by e.open_calls d ds b (here_of o m e (longer z more i.pending)) h k n)) t.moves;
+      moves = result_by (i.pending).may_follow e1 j.pending r _ _
+          (λ z more u o m. ap (λ (v : Turn Expansion Kept Ended). step (outer_of e.open_calls) v)
+          (closed_by e.open_calls d ds b (here_of o m e (longer z more i.pending)) h k n)) t.moves;
       ready = t.ready;
       limits = t.limits;
       made = t.made;
@@ -237,7 +282,10 @@ stays_same i turns.SkipsLine r = record { ready = r; follows = refl; file = refl
 stays_same i turns.NeedsMore r = record { ready = r; follows = refl; file = refl }
 stays_same i (turns.Ends cause) r = tt
 
-pub turned_makes : (e e1 : Engine) (i : Held) (r : Result Turned TurnFault) → IsReady i → IfOk r (λ t. Moves (i.pending).may_follow e1 i.pending t (λ z more o m. moved (configuration o m e (longer z more i.pending)))) → {to : Turned → Type 0} → Makes r e e1 to → Turns r e e1 i i
+pub turned_makes : (e e1 : Engine) (i : Held) (r : Result Turned TurnFault) → IsReady i
+    → IfOk r (λ t. Moves (i.pending).may_follow e1 i.pending t
+    (λ z more o m. moved (configuration o m e (longer z more i.pending)))) → {to : Turned → Type 0} → Makes r e e1 to
+    → Turns r e e1 i i
 turned_makes e e1 i (Ok t) r h m = record { moves = h; ready = stays_same i t r; limits = m.limits; made = made_turn e e1 i i t m.made }
 turned_makes e e1 i (Err x) r h m = record { moves = tt; ready = tt; limits = tt; made = tt }
 

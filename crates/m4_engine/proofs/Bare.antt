@@ -18,7 +18,9 @@ use Rattle.m4_engine.specs.Turns.{called_within, step, Extended, Pushes, Moves}
 use Rattle.m4_engine.proofs.Acts.{called_goes}
 use Rattle.m4_engine.proofs.Calling.{bare_made}
 
-acted_text : (c : Call) (t x : List ℕ) (e : Engine) → c.definition ≡ Text t → x ≡ substituted t c.name c.done (e.state).quotes → act c.definition c.name c.done c.place e.state ≡ leaves e.state (expands x)
+acted_text : (c : Call) (t x : List ℕ) (e : Engine) → c.definition ≡ Text t
+    → x ≡ substituted t c.name c.done (e.state).quotes
+    → act c.definition c.name c.done c.place e.state ≡ leaves e.state (expands x)
 acted_text c t x e d h =
     ap (λ (k : Def). act k c.name c.done c.place e.state) d
     ∙ ap (λ (y : List ℕ). leaves e.state (expands y)) (sym h)
@@ -28,7 +30,9 @@ pub text_goes : (may : Bool) (e e1 : Engine) (c : Call) (t x : List ℕ) (p p' :
     → x ≡ substituted t c.name c.done (e.state).quotes → e1 ≡ with_made [] [] None e
     → Pushes p p' (Some (pushes.Text x))
     → Moves may e1 p' turns.GoesOn (λ z more o m. called_within e.open_calls c (here_of o m e (longer z more p)))
-text_goes may e e1 c t x p p' d h m r = λ z more w o n. called_goes e e1 c (leaves e.state (expands x)) (longer z more p) (longer z more p') (acted_text c t x e d h) refl refl m (r z more) o n
+text_goes may e e1 c t x p p' d h m r =
+    λ z more w o n. called_goes e e1 c (leaves e.state (expands x)) (longer z more p) (longer z more p')
+    (acted_text c t x e d h) refl refl m (r z more) o n
 
 -- the same of a call with no list
 pub bare_goes : (may : Bool) (e e2 e1 : Engine) (c : Call) (p : Extended) (p' : Pending) (r : Result Turned TurnFault)

@@ -34,7 +34,9 @@ pub due_none : (e : Engine) (out reported : Option (List ℕ)) → FlushesDue e 
 due_none e out reported = inl (refl, record { output = with_bytes-nil out; messages = with_bytes-nil reported })
 
 -- all was
-pub due_all : (e e' : Engine) (out out' reported reported' : Option (List ℕ)) → e' ≡ after_flush e → out' ≡ with_bytes out e.output → reported' ≡ with_bytes reported e.messages → FlushesDue e e' (writers out out' reported reported')
+pub due_all : (e e' : Engine) (out out' reported reported' : Option (List ℕ)) → e' ≡ after_flush e
+    → out' ≡ with_bytes out e.output → reported' ≡ with_bytes reported e.messages
+    → FlushesDue e e' (writers out out' reported reported')
 due_all e e' out out' reported reported' h f g = inr (h, record { output = f; messages = g })
 
 -- a beginning of the first part was written
@@ -71,7 +73,8 @@ taken o a m b n k all more l e = (
 )
 
 -- the first k bytes could not all be written; where there are messages, k is n
-pub first_breaks : (o a m : Option (List ℕ)) (n k : ℕ) (all reported : List ℕ) → (reported ≡ []) ⊎ (n ≡ k) → HasBegun o a (take k all) → IsInOrder (take n all) reported (writers o a m m)
+pub first_breaks : (o a m : Option (List ℕ)) (n k : ℕ) (all reported : List ℕ) → (reported ≡ []) ⊎ (n ≡ k)
+    → HasBegun o a (take k all) → IsInOrder (take n all) reported (writers o a m m)
 first_breaks o a m n k all reported c h = record {
   output_first = inl refl;
   then_messages = go c;
@@ -82,7 +85,8 @@ first_breaks o a m n k all reported c h = record {
     go (inr s) = inl (subst (λ j. HasBegun o a (take j all)) (sym s) h)
 
 -- the messages could not be written
-pub messages_break : (o a m b : Option (List ℕ)) (n k : ℕ) (all reported : List ℕ) → n ≤ k → (reported ≡ []) ⊎ (n ≡ k) → a ≡ with_bytes o (take k all) → HasBegun m b reported → IsInOrder (take n all) reported (writers o a m b)
+pub messages_break : (o a m b : Option (List ℕ)) (n k : ℕ) (all reported : List ℕ) → n ≤ k → (reported ≡ []) ⊎ (n ≡ k)
+    → a ≡ with_bytes o (take k all) → HasBegun m b reported → IsInOrder (take n all) reported (writers o a m b)
 messages_break o a m b n k all reported l c e h = record {
   output_first = inr (taken o a m b n k all [] l (e ∙ ap (λ x. with_bytes o x) (sym (append-nil (take k all)))));
   then_messages = go c;
@@ -93,7 +97,9 @@ messages_break o a m b n k all reported l c e h = record {
     go (inr s) = inl (all_begun o a (take n all) (e ∙ ap (λ j. with_bytes o (take j all)) (sym s)))
 
 -- the output after them could not be written
-pub own_breaks : (o a c m b : Option (List ℕ)) (n k : ℕ) (all y reported : List ℕ) → n ≤ k → a ≡ with_bytes o (take k all) → HasBegun a c y → b ≡ with_bytes m reported → IsInOrder (take n all) reported (writers o c m b)
+pub own_breaks : (o a c m b : Option (List ℕ)) (n k : ℕ) (all y reported : List ℕ) → n ≤ k
+    → a ≡ with_bytes o (take k all) → HasBegun a c y → b ≡ with_bytes m reported
+    → IsInOrder (take n all) reported (writers o c m b)
 own_breaks o a c m b n k all y reported l e h f = record {
   output_first = inr (taken o c m b n k all (h.1).front l ((h.1).holds ∙ ap (λ z. with_bytes z (h.1).front) e ∙ with_bytes-append o (take k all) (h.1).front));
   then_messages = inr f;

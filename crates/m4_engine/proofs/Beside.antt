@@ -5,7 +5,8 @@ use Rattle.m4_engine.specs.Nesting.{level, nested, expansion, Falls}
 use Rattle.m4_engine.proofs.Bounds.{expansion_is, nests_keeps}
 
 -- s's expansion and t's go side by side from related starts, until s's ends
-pub record Follows (S F D : Type 0) (turn : S → Turn S F D) (join : F → S → Outcome S D) (whole : S → Outcome S D) (R : S → S → Type 0) (K : F → F → Type 0) (Q : D → Outcome S D → Type 0) : Type 0 where
+pub record Follows (S F D : Type 0) (turn : S → Turn S F D) (join : F → S → Outcome S D) (whole : S → Outcome S D)
+    (R : S → S → Type 0) (K : F → F → Type 0) (Q : D → Outcome S D → Type 0) : Type 0 where
   pub halt : (s t : S) (d : D) → R s t → turn s ≡ Halt d → Q d (whole t)
   pub close : (s t s' : S) → R s t → turn s ≡ Close s' → (t' : S) × (turn t ≡ Close t') × R s' t'
   pub go_on : (s t s' : S) → R s t → turn s ≡ GoOn s' → (t' : S) × (turn t ≡ GoOn t') × R s' t'
@@ -54,7 +55,9 @@ module _ (S F D : Type 0) (turn : S → Turn S F D) (join : F → S → Outcome 
             moved (fewer v) _ _ (ap (λ y. then_on y whole) k.1) (h v k.0 k.2 (omega arith))
       ]) refl)
 
-  level_fits : (fewer : S → Outcome S D) (l : ℕ) → ((a b : S) → R a b → left a < l → Fits' (fewer a) (whole b)) → ((a b : S) → fewer a ≡ Closed b → left b ≤ left a) → (m : ℕ) (s t : S) → R s t → left s ≤ l → size s < m → Fits' (level S F D turn join spent size fewer m s) (whole t)
+  level_fits : (fewer : S → Outcome S D) (l : ℕ) → ((a b : S) → R a b → left a < l → Fits' (fewer a) (whole b))
+      → ((a b : S) → fewer a ≡ Closed b → left b ≤ left a) → (m : ℕ) (s t : S) → R s t → left s ≤ l → size s < m
+      → Fits' (level S F D turn join spent size fewer m s) (whole t)
   level_fits fewer l h keeps zero s t r g z = absurd (omega arith)
   level_fits fewer l h keeps (suc m) s t r g z =
       (elim (turn s) as (λ v. turn s ≡ v → Fits' (after S F D join fewer (level S F D turn join spent size fewer m) v) (whole t)) [
@@ -78,7 +81,8 @@ module _ (S F D : Type 0) (turn : S → Turn S F D) (join : F → S → Outcome 
   nested_fits : (n : ℕ) (s t : S) → R s t → left s < n → Fits' (nested S F D turn join spent size n s) (whole t)
   nested_fits zero s t r g = absurd (omega arith)
   nested_fits (suc n) s t r g =
-      level_fits (nested S F D turn join spent size n) (left s) (λ a b q k. nested_fits n a b q (omega arith)) (nests_keeps S F D turn join spent size left falls n) (suc (size s)) s t r (omega arith) (omega arith)
+      level_fits (nested S F D turn join spent size n) (left s) (λ a b q k. nested_fits n a b q (omega arith))
+      (nests_keeps S F D turn join spent size left falls n) (suc (size s)) s t r (omega arith) (omega arith)
 
   -- whatever the first comes to, the second fits it
   pub expansion_fits : (s t : S) → R s t → Fits' (whole s) (whole t)

@@ -33,7 +33,8 @@ use Rattle.m4_engine.proofs.Marks.{mark_here, mark_then}
 use Rattle.m4_engine.proofs.Running.{more_written, comes_keeps}
 
 -- the reader gave x of the file, and the expansion goes on from here; all that was made was written
-pub record Taking (e0 : Engine) (p0 : Pending) (before after : Option Script) (out0 reported0 : Option (List ℕ)) (w : Wanted) (e : Engine) (i : Held) (out reported : Option (List ℕ)) : Type 0 where
+pub record Taking (e0 : Engine) (p0 : Pending) (before after : Option Script) (out0 reported0 : Option (List ℕ))
+    (w : Wanted) (e : Engine) (i : Held) (out reported : Option (List ℕ)) : Type 0 where
   pub x : List ℕ
   pub q : Pending
   pub reads : Reads before after p0 x q
@@ -47,7 +48,8 @@ pub record Taking (e0 : Engine) (p0 : Pending) (before after : Option Script) (o
   pub flushed : IsFlushed e
 
 -- what was written before, and more
-pub more_after : (old mid new : Option (List ℕ)) (made x y : List ℕ) → mid ≡ with_bytes old (made ++ x) → new ≡ with_bytes mid y → new ≡ with_bytes old (made ++ (x ++ y))
+pub more_after : (old mid new : Option (List ℕ)) (made x y : List ℕ) → mid ≡ with_bytes old (made ++ x)
+    → new ≡ with_bytes mid y → new ≡ with_bytes old (made ++ (x ++ y))
 more_after old mid new made x y e f =
     f ∙ ap (λ (o : Option (List ℕ)). with_bytes o y) e ∙ with_bytes-append old (made ++ x) y ∙ ap (with_bytes old) (append_assoc made x y)
 
@@ -72,7 +74,8 @@ asked_since e0 p0 x o m out0 reported0 out reported out' reported' (inr a) h = i
   };
 })
 
-pub takes_nothing : (e : Engine) (i : Held) (s : Option Script) (out reported : Option (List ℕ)) → IsIdle e → IsReady i → Taking e i.pending s s out reported wanted.Token e i out reported
+pub takes_nothing : (e : Engine) (i : Held) (s : Option Script) (out reported : Option (List ℕ)) → IsIdle e → IsReady i
+    → Taking e i.pending s s out reported wanted.Token e i out reported
 takes_nothing e i s out reported d r = record {
   x = [];
   q = i.pending;
@@ -88,7 +91,8 @@ takes_nothing e i s out reported d r = record {
 }
 
 -- what was written since is shown by a later turn, if anything was
-pub marked_since : (w : Wanted) (e0 e : Engine) (q p : Pending) (o m x y : List ℕ) → Marked wanted.Token e0 q o m → Leads wanted.Token e0 q w e p o m → IsMarked w e p x y → Marked wanted.Token e0 q (o ++ x) (m ++ y)
+pub marked_since : (w : Wanted) (e0 e : Engine) (q p : Pending) (o m x y : List ℕ) → Marked wanted.Token e0 q o m
+    → Leads wanted.Token e0 q w e p o m → IsMarked w e p x y → Marked wanted.Token e0 q (o ++ x) (m ++ y)
 marked_since w e0 e q p o m x y k l (inr n) = mark_then wanted.Token w e0 e q p o m x y l n
 marked_since w e0 e q p o m x y k l (inl n) =
     subst (λ (v : List ℕ). Marked wanted.Token e0 q v (m ++ y)) (sym (append-nil o) ∙ ap (λ (v : List ℕ). o ++ v) (sym n.0))
@@ -126,7 +130,8 @@ not_open true e f = cc
 not_open false e f = cc
 
 -- more of the file came, or the reader is at its end
-reads_on : (before a b : Option Script) (p0 q j k : Pending) (x y : List ℕ) → Reads before a p0 x q → q.may_follow ≡ true → j.may_follow ≡ true → Reads a b j y k → Reads before b p0 (x ++ y) (longer y k.may_follow q)
+reads_on : (before a b : Option Script) (p0 q j k : Pending) (x y : List ℕ) → Reads before a p0 x q
+    → q.may_follow ≡ true → j.may_follow ≡ true → Reads a b j y k → Reads before b p0 (x ++ y) (longer y k.may_follow q)
 reads_on before a b p0 q j k x y r f g s = record {
   given = r.given ∙ ap (after_bytes x) s.given ∙ after_bytes-append x y b;
   in_hand = ap (longer y k.may_follow) r.in_hand ∙ longer_twice x y q.may_follow k.may_follow p0;
@@ -136,20 +141,24 @@ reads_on before a b p0 q j k x y r f g s = record {
 }
 
 -- the same place, with more bytes after those in hand
-leads_more : (w : Wanted) (e0 e : Engine) (q p : Pending) (o m y : List ℕ) (came : Bool) → q.may_follow ≡ true → Leads wanted.Token e0 q w e p o m → Leads wanted.Token e0 (longer y came q) w e (longer y came p) o m
+leads_more : (w : Wanted) (e0 e : Engine) (q p : Pending) (o m y : List ℕ) (came : Bool) → q.may_follow ≡ true
+    → Leads wanted.Token e0 q w e p o m → Leads wanted.Token e0 (longer y came q) w e (longer y came p) o m
 leads_more w e0 e q p o m y came f l = record {
   comes = λ z more c a b.
       let k = l.comes (y ++ z) more (subst (λ v. MayFollow v (y ++ z) more) (sym f) tt) a b in (
         k.0,
-        subst (λ (r : Pending). Comes k.0 (Goes (configuration a b e0 r)) (stands w (configuration (a ++ o) (b ++ m) e (longer z more (longer y came p))))) (sym (longer_twice y z came more q))
-            (subst (λ (r : Pending). Comes k.0 (Goes (configuration a b e0 (longer (y ++ z) more q))) (stands w (configuration (a ++ o) (b ++ m) e r))) (sym (longer_twice y z came more p)) k.1),
+        subst (λ (r : Pending). Comes k.0 (Goes (configuration a b e0 r))
+            (stands w (configuration (a ++ o) (b ++ m) e (longer z more (longer y came p))))) (sym (longer_twice y z came more q))
+            (subst (λ (r : Pending). Comes k.0 (Goes (configuration a b e0 (longer (y ++ z) more q)))
+            (stands w (configuration (a ++ o) (b ++ m) e r))) (sym (longer_twice y z came more p)) k.1),
       );
   follows = refl;
   limits = l.limits;
 }
 
 -- the same turn shows what was written
-mark_longer : (e0 : Engine) (q : Pending) (o m y : List ℕ) (came : Bool) → q.may_follow ≡ true → Marked wanted.Token e0 q o m → Marked wanted.Token e0 (longer y came q) o m
+mark_longer : (e0 : Engine) (q : Pending) (o m y : List ℕ) (came : Bool) → q.may_follow ≡ true
+    → Marked wanted.Token e0 q o m → Marked wanted.Token e0 (longer y came q) o m
 mark_longer e0 q o m y came f k = record {
   at = k.at;
   q = longer y came k.q;
@@ -162,8 +171,11 @@ mark_longer e0 q o m y came f k = record {
   rest = k.rest;
   messages = k.messages;
   makes = λ z more c a b.
-      let made = k.makes (y ++ z) more (subst (λ v. MayFollow v (y ++ z) more) (sym f) tt) a b in
-      (made.0, ap (λ (r : Pending). (made_by (moved (configuration (a ++ k.before) (b ++ k.reported) k.at r))).messages) (longer_twice y z came more k.q) ∙ made.1);
+      let made = k.makes (y ++ z) more (subst (λ v. MayFollow v (y ++ z) more) (sym f) tt) a b in (
+        made.0,
+        ap (λ (r : Pending). (made_by (moved (configuration (a ++ k.before) (b ++ k.reported) k.at r))).messages)
+            (longer_twice y z came more k.q) ∙ made.1,
+      );
 }
 
 -- ---- what it all comes to
@@ -186,7 +198,8 @@ from_start : (e0 e : Engine) (p0 : Pending) (i : Held) (before after : Option Sc
     → MayFollow (t.q).may_follow z more
     → comes_to w (configuration t.o t.m e (longer z more i.pending))
     ≡ expand (expansion_of e0.limits (made_before e0) (longer z more t.q))
-from_start e0 e p0 i before after out0 reported0 out reported w d t z more c = leads_same wanted.Token w e0 e t.q i.pending t.o t.m t.leads z more c [] [] ∙ comes_is e0 (longer z more t.q) d
+from_start e0 e p0 i before after out0 reported0 out reported w d t z more c =
+    leads_same wanted.Token w e0 e t.q i.pending t.o t.m t.leads z more c [] [] ∙ comes_is e0 (longer z more t.q) d
 
 so_far_is : (v : Outcome Expansion Ended) → so_far_in v ≡ (ended_of v).so_far
 so_far_is (Halted d) = refl
@@ -203,7 +216,8 @@ pub stops_at : (e0 e e' : Engine) (p0 : Pending) (i j : Held) (before after : Op
 stops_at e0 e e' p0 i j before after out0 reported0 out reported out' reported' w v d t h y u =
     let still : (t.q).may_follow ≡ true = sym (t.leads).follows ∙ h.opened in
     let opened : (j.pending).may_follow ≡ true = is_open i j e e' w v _ h in
-    let s : Taking e0 p0 before after out0 reported0 v e' j out' reported' = needs_more e0 e e' p0 i j before after out0 reported0 out reported out' reported' w v t h in
+    let s : Taking e0 p0 before after out0 reported0 v e' j out' reported' =
+    needs_more e0 e e' p0 i j before after out0 reported0 out reported out' reported' w v t h in
     ap (input_expansion e0) (sym (ap (longer y true) (t.reads).in_hand ∙ longer_twice t.x y (t.q).may_follow true p0))
     ∙ ap ended_of (
     sym (from_start e0 e' p0 j before after out0 reported0 out' reported' v d s y true (subst (λ v. MayFollow v y true) (sym still) tt))
@@ -223,7 +237,8 @@ pub asked_here : (e0 e e' : Engine) (p0 : Pending) (i j : Held) (before after : 
 asked_here e0 e e' p0 i j before after out0 reported0 out reported out' reported' w v d t h x y last u p l =
     let all = more_written t.o t.m h.o h.m out0 out out' reported0 reported reported' t.written (h.written).output (h.written).messages in
     let end : Ended = record { so_far = so_far_of (t.o ++ h.o) (t.m ++ h.m) e'; reason = NeedsInput } in
-    let same : input_expansion e0 (longer (t.x ++ y) true p0) ≡ end = stops_at e0 e e' p0 i j before after out0 reported0 out reported out' reported' w v d t h y u in
+    let same : input_expansion e0 (longer (t.x ++ y) true p0) ≡ end =
+    stops_at e0 e e' p0 i j before after out0 reported0 out reported out' reported' w v d t h y u in
     record {
       asked = t.x ++ y;
       last = last;
@@ -232,9 +247,11 @@ asked_here e0 e e' p0 i j before after out0 reported0 out reported out' reported
       undecided = ap (λ (r : Ended). r.reason) same;
       written = record {
         more = [];
-        output = written_all out0 out' (t.o ++ h.o) e'.output _ all.output (h.flushed).output (ap (λ (r : Ended). (r.so_far).output) same) ∙ ap (with_bytes out0) (sym (append-nil _));
+        output = written_all out0 out' (t.o ++ h.o) e'.output _ all.output (h.flushed).output
+            (ap (λ (r : Ended). (r.so_far).output) same) ∙ ap (with_bytes out0) (sym (append-nil _));
         more_messages = [];
-        messages = written_all reported0 reported' (t.m ++ h.m) e'.messages _ all.messages (h.flushed).messages (ap (λ (r : Ended). (r.so_far).messages) same) ∙ ap (with_bytes reported0) (sym (append-nil _));
+        messages = written_all reported0 reported' (t.m ++ h.m) e'.messages _ all.messages (h.flushed).messages
+            (ap (λ (r : Ended). (r.so_far).messages) same) ∙ ap (with_bytes reported0) (sym (append-nil _));
       };
     }
 
@@ -245,7 +262,8 @@ pub blocks_came : (e0 e e' : Engine) (p0 : Pending) (i j k : Held) (before a b :
     → HandNeeds w e i v e' j (writers out out' reported reported') → HasReadOn v e' a b j k
     → Taking e0 p0 before b out0 reported0 v e' k out' reported'
 blocks_came e0 e e' p0 i j k before a b out0 reported0 out reported out' reported' w v d t h g =
-    let s : Taking e0 p0 before a out0 reported0 v e' j out' reported' = needs_more e0 e e' p0 i j before a out0 reported0 out reported out' reported' w v t h in
+    let s : Taking e0 p0 before a out0 reported0 v e' j out' reported' =
+    needs_more e0 e e' p0 i j before a out0 reported0 out reported out' reported' w v t h in
     let opened : (j.pending).may_follow ≡ true = is_open i j e e' w v _ h in
     let still : (t.q).may_follow ≡ true = sym (t.leads).follows ∙ h.opened in
     record {
@@ -287,8 +305,10 @@ ended_all e0 e e' p0 i before after out0 reported0 out reported out' reported' w
         state = refl;
         saved = refl;
         calls = refl;
-        output = all.output ∙ ap (λ (n : List ℕ). with_bytes out0 n) (sym (append-nil (t.o ++ h.o)) ∙ ap (λ (n : List ℕ). (t.o ++ h.o) ++ n) (sym (h.flushed).output));
-        messages = all.messages ∙ ap (λ (n : List ℕ). with_bytes reported0 n) (sym (append-nil (t.m ++ h.m)) ∙ ap (λ (n : List ℕ). (t.m ++ h.m) ++ n) (sym (h.flushed).messages));
+        output = all.output ∙ ap (λ (n : List ℕ). with_bytes out0 n)
+            (sym (append-nil (t.o ++ h.o)) ∙ ap (λ (n : List ℕ). (t.o ++ h.o) ++ n) (sym (h.flushed).output));
+        messages = all.messages ∙ ap (λ (n : List ℕ). with_bytes reported0 n)
+            (sym (append-nil (t.m ++ h.m)) ∙ ap (λ (n : List ℕ). (t.m ++ h.m) ++ n) (sym (h.flushed).messages));
       } in
       subst (λ (y : Ended). Expanded e0 e' y cause (writers out0 out' reported0 reported')) (sym same) x;
 }
@@ -364,7 +384,8 @@ told_in_hand e0 e p0 i before after out0 reported0 out reported out' reported' w
 begun : (out0 out : Option (List ℕ)) (o x all : List ℕ) → out ≡ with_bytes out0 o → all ≡ o ++ x → HasBegun out0 out all
 begun out0 out o x all e f = (x, record { front = o; parts = f; holds = e })
 
-broken_by : (o m : List ℕ) (d : Ended) (out0 out reported0 reported : Option (List ℕ)) → HasWritten o m (writers out0 out reported0 reported) → HasMade o m d.so_far → Broken d (writers out0 out reported0 reported)
+broken_by : (o m : List ℕ) (d : Ended) (out0 out reported0 reported : Option (List ℕ))
+    → HasWritten o m (writers out0 out reported0 reported) → HasMade o m d.so_far → Broken d (writers out0 out reported0 reported)
 broken_by o m d out0 out reported0 reported w h = record {
   output = begun out0 out o h.x (d.so_far).output w.output h.output;
   messages = begun reported0 reported m h.y (d.so_far).messages w.messages h.messages;
@@ -387,7 +408,8 @@ broke_all e0 e p0 i before after out0 reported0 out reported out' reported' w d 
       broken_by (t.o ++ h.o) (t.m ++ h.m) (input_expansion e0 (longer z more t.q)) out0 out' reported0 reported'
       (more_written t.o t.m h.o h.m out0 out out' reported0 reported reported' t.written (h.written).output (h.written).messages)
       (subst (λ (r : RunSoFar). HasMade (t.o ++ h.o) (t.m ++ h.m) r)
-      (ap so_far_in (from_start e0 e p0 i before after out0 reported0 out reported w d t z more c) ∙ so_far_is (expand (expansion_of e0.limits (made_before e0) (longer z more t.q))))
+      (ap so_far_in (from_start e0 e p0 i before after out0 reported0 out reported w d t z more c)
+      ∙ so_far_is (expand (expansion_of e0.limits (made_before e0) (longer z more t.q))))
       (h.made z more k t.o t.m));
 }
 
@@ -424,16 +446,19 @@ module _ (e0 e e' : Engine) (p0 : Pending) (i j k : Held) (before a b : Option S
     reads = read_before;
     at_fault = n;
     output = written_all out0 out' (t.o ++ h.o) e'.output _ both_written.output (h.flushed).output (ap (λ (r : Ended). (r.so_far).output) stops);
-    messages = written_all reported0 reported' (t.m ++ h.m) e'.messages _ both_written.messages (h.flushed).messages (ap (λ (r : Ended). (r.so_far).messages) stops);
+    messages = written_all reported0 reported' (t.m ++ h.m) e'.messages _ both_written.messages (h.flushed).messages
+        (ap (λ (r : Ended). (r.so_far).messages) stops);
     reason = ap (λ (r : Ended). r.reason) stops;
   }
 
   -- what is made is kept, whatever follows
   kept_after : (z : List ℕ) (more : Bool) → HasMade (t.o ++ h.o) (t.m ++ h.m) (input_expansion e0 (longer z more (longer (t.x ++ g.x) true p0))).so_far
   kept_after z more =
-      let s : Taking e0 p0 before a out0 reported0 v e' j out' reported' = needs_more e0 e e' p0 i j before a out0 reported0 out reported out' reported' w v t h in
+      let s : Taking e0 p0 before a out0 reported0 v e' j out' reported' =
+      needs_more e0 e e' p0 i j before a out0 reported0 out reported out' reported' w v t h in
       let c = comes_keeps v s.o s.m e' (longer (g.x ++ z) more j.pending) in
-      let from = from_start e0 e' p0 j before a out0 reported0 out' reported' v d s (g.x ++ z) more (subst (λ v. MayFollow v (g.x ++ z) more) (sym still_open) tt) in
+      let from = from_start e0 e' p0 j before a out0 reported0 out' reported' v d s (g.x ++ z) more
+      (subst (λ v. MayFollow v (g.x ++ z) more) (sym still_open) tt) in
       let same : longer (g.x ++ z) more t.q ≡ longer z more (longer (t.x ++ g.x) true p0) =
       ap (longer (g.x ++ z) more) (t.reads).in_hand ∙ longer_twice t.x (g.x ++ z) (t.q).may_follow more p0
       ∙ ap (λ (n : List ℕ). longer n more p0) (sym (append_assoc t.x g.x z)) ∙ sym (longer_twice (t.x ++ g.x) z true more p0) in
@@ -453,14 +478,18 @@ module _ (e0 e e' : Engine) (p0 : Pending) (i j k : Held) (before a b : Option S
     x = t.x ++ g.x;
     q = longer (t.x ++ g.x) true p0;
     reads = read_before;
-    asked = inr (asked_here e0 e e' p0 i j before a out0 reported0 out reported out' reported' w v d t h g.x g.x [] g.undecided (sym (append-nil g.x)) (omega arith));
-    so = λ z more c. broken_by (t.o ++ h.o) (t.m ++ h.m) (input_expansion e0 (longer z more (longer (t.x ++ g.x) true p0))) out0 out' reported0 reported' both_written (kept_after z more);
+    asked = inr (asked_here e0 e e' p0 i j before a out0 reported0 out reported out' reported' w v d t h g.x g.x []
+        g.undecided (sym (append-nil g.x)) (omega arith));
+    so = λ z more c. broken_by (t.o ++ h.o) (t.m ++ h.m)
+        (input_expansion e0 (longer z more (longer (t.x ++ g.x) true p0))) out0 out' reported0 reported' both_written
+        (kept_after z more);
   }
 
   -- a turn of the expansion of all bytes shows what was written
   lacked_told : StepBreaks e0 p0 before b (writers out0 out' reported0 reported')
   lacked_told =
-      let s : Taking e0 p0 before a out0 reported0 v e' j out' reported' = needs_more e0 e e' p0 i j before a out0 reported0 out reported out' reported' w v t h in
+      let s : Taking e0 p0 before a out0 reported0 v e' j out' reported' =
+      needs_more e0 e e' p0 i j before a out0 reported0 out reported out' reported' w v t h in
       let same : longer g.x true t.q ≡ longer (t.x ++ g.x) true p0 = ap (longer g.x true) (t.reads).in_hand ∙ longer_twice t.x g.x (t.q).may_follow true p0 in
       step_broken e0 p0 before b (t.x ++ g.x) (longer (t.x ++ g.x) true p0) (t.o ++ h.o) (t.m ++ h.m) out0 out' reported0 reported' d read_before both_written
       (subst (λ (q : Pending). Marked wanted.Token e0 q (t.o ++ h.o) (t.m ++ h.m)) same (mark_longer e0 t.q s.o s.m g.x true still_open s.marked))
@@ -471,17 +500,26 @@ pub ends_by_cause : (e0 e e' : Engine) (p0 : Pending) (i j : Held) (before after
     → Taking e0 p0 before after out0 reported0 w e i out reported
     → HandGives w e e' i j (writers out out' reported reported') (Err cause)
     → Expands e0 e' p0 before after (writers out0 out' reported0 reported') cause
-ends_by_cause e0 e e' p0 i j before after out0 reported0 out reported out' reported' w causes.Done d t h = ended_all e0 e e' p0 i before after out0 reported0 out reported out' reported' w causes.Done d t h
-ends_by_cause e0 e e' p0 i j before after out0 reported0 out reported out' reported' w (causes.Exited n) d t h = ended_all e0 e e' p0 i before after out0 reported0 out reported out' reported' w (causes.Exited n) d t h
-ends_by_cause e0 e e' p0 i j before after out0 reported0 out reported out' reported' w causes.EndInString d t h = ended_all e0 e e' p0 i before after out0 reported0 out reported out' reported' w causes.EndInString d t h
-ends_by_cause e0 e e' p0 i j before after out0 reported0 out reported out' reported' w causes.EndInComment d t h = ended_all e0 e e' p0 i before after out0 reported0 out reported out' reported' w causes.EndInComment d t h
-ends_by_cause e0 e e' p0 i j before after out0 reported0 out reported out' reported' w causes.EndInArguments d t h = ended_all e0 e e' p0 i before after out0 reported0 out reported out' reported' w causes.EndInArguments d t h
-ends_by_cause e0 e e' p0 i j before after out0 reported0 out reported out' reported' w causes.ExpansionLimit d t h = ended_all e0 e e' p0 i before after out0 reported0 out reported out' reported' w causes.ExpansionLimit d t h
-ends_by_cause e0 e e' p0 i j before after out0 reported0 out reported out' reported' w causes.NestingLimit d t h = ended_all e0 e e' p0 i before after out0 reported0 out reported out' reported' w causes.NestingLimit d t h
+ends_by_cause e0 e e' p0 i j before after out0 reported0 out reported out' reported' w causes.Done d t h =
+    ended_all e0 e e' p0 i before after out0 reported0 out reported out' reported' w causes.Done d t h
+ends_by_cause e0 e e' p0 i j before after out0 reported0 out reported out' reported' w (causes.Exited n) d t h =
+    ended_all e0 e e' p0 i before after out0 reported0 out reported out' reported' w (causes.Exited n) d t h
+ends_by_cause e0 e e' p0 i j before after out0 reported0 out reported out' reported' w causes.EndInString d t h =
+    ended_all e0 e e' p0 i before after out0 reported0 out reported out' reported' w causes.EndInString d t h
+ends_by_cause e0 e e' p0 i j before after out0 reported0 out reported out' reported' w causes.EndInComment d t h =
+    ended_all e0 e e' p0 i before after out0 reported0 out reported out' reported' w causes.EndInComment d t h
+ends_by_cause e0 e e' p0 i j before after out0 reported0 out reported out' reported' w causes.EndInArguments d t h =
+    ended_all e0 e e' p0 i before after out0 reported0 out reported out' reported' w causes.EndInArguments d t h
+ends_by_cause e0 e e' p0 i j before after out0 reported0 out reported out' reported' w causes.ExpansionLimit d t h =
+    ended_all e0 e e' p0 i before after out0 reported0 out reported out' reported' w causes.ExpansionLimit d t h
+ends_by_cause e0 e e' p0 i j before after out0 reported0 out reported out' reported' w causes.NestingLimit d t h =
+    ended_all e0 e e' p0 i before after out0 reported0 out reported out' reported' w causes.NestingLimit d t h
 ends_by_cause e0 e e' p0 i j before after out0 reported0 out reported out' reported' w (causes.Frozen f) d t h = absurd h
 ends_by_cause e0 e e' p0 i j before after out0 reported0 out reported out' reported' w causes.Read d t h = absurd h
-ends_by_cause e0 e e' p0 i j before after out0 reported0 out reported out' reported' w causes.Write d t h = broke_all e0 e p0 i before after out0 reported0 out reported out' reported' w d t h
-ends_by_cause e0 e e' p0 i j before after out0 reported0 out reported out' reported' w causes.OutOfMemory d t h = broke_all e0 e p0 i before after out0 reported0 out reported out' reported' w d t h
+ends_by_cause e0 e e' p0 i j before after out0 reported0 out reported out' reported' w causes.Write d t h =
+    broke_all e0 e p0 i before after out0 reported0 out reported out' reported' w d t h
+ends_by_cause e0 e e' p0 i j before after out0 reported0 out reported out' reported' w causes.OutOfMemory d t h =
+    broke_all e0 e p0 i before after out0 reported0 out reported out' reported' w d t h
 
 pub ends_so : (e0 e e' : Engine) (p0 : Pending) (i j : Held) (before after : Option Script)
     (out0 reported0 out reported out' reported' : Option (List ℕ)) (w : Wanted) (cause : Cause) (r : Result Wanted Cause)
@@ -489,15 +527,18 @@ pub ends_so : (e0 e e' : Engine) (p0 : Pending) (i j : Held) (before after : Opt
     → HandGives w e e' i j (writers out out' reported reported') r
     → Expands e0 e' p0 before after (writers out0 out' reported0 reported') cause
 ends_so e0 e e' p0 i j before after out0 reported0 out reported out' reported' w cause r f d t h =
-    ends_by_cause e0 e e' p0 i j before after out0 reported0 out reported out' reported' w cause d t (subst (HandGives w e e' i j (writers out out' reported reported')) f h)
+    ends_by_cause e0 e e' p0 i j before after out0 reported0 out reported out' reported' w cause d t
+    (subst (HandGives w e e' i j (writers out out' reported reported')) f h)
 
 told_by_cause : (e0 e : Engine) (p0 : Pending) (i : Held) (before after : Option Script)
     (out0 reported0 out reported out' reported' : Option (List ℕ)) (w : Wanted) (cause : Cause) → IsIdle e0
     → Taking e0 p0 before after out0 reported0 w e i out reported
     → OrderBy w e i.pending (writers out out' reported reported') (Err cause)
     → StepBreaksBy e0 p0 before after (writers out0 out' reported0 reported') cause
-told_by_cause e0 e p0 i before after out0 reported0 out reported out' reported' w causes.Write d t h = told_in_hand e0 e p0 i before after out0 reported0 out reported out' reported' w d t h
-told_by_cause e0 e p0 i before after out0 reported0 out reported out' reported' w causes.OutOfMemory d t h = told_in_hand e0 e p0 i before after out0 reported0 out reported out' reported' w d t h
+told_by_cause e0 e p0 i before after out0 reported0 out reported out' reported' w causes.Write d t h =
+    told_in_hand e0 e p0 i before after out0 reported0 out reported out' reported' w d t h
+told_by_cause e0 e p0 i before after out0 reported0 out reported out' reported' w causes.OutOfMemory d t h =
+    told_in_hand e0 e p0 i before after out0 reported0 out reported out' reported' w d t h
 told_by_cause e0 e p0 i before after out0 reported0 out reported out' reported' w cause d t h = tt
 
 pub told_so : (e0 e : Engine) (p0 : Pending) (i : Held) (before after : Option Script)
@@ -506,9 +547,11 @@ pub told_so : (e0 e : Engine) (p0 : Pending) (i : Held) (before after : Option S
     → OrderBy w e i.pending (writers out out' reported reported') r
     → StepBreaksBy e0 p0 before after (writers out0 out' reported0 reported') cause
 told_so e0 e p0 i before after out0 reported0 out reported out' reported' w cause r f d t h =
-    told_by_cause e0 e p0 i before after out0 reported0 out reported out' reported' w cause d t (subst (OrderBy w e i.pending (writers out out' reported reported')) f h)
+    told_by_cause e0 e p0 i before after out0 reported0 out reported out' reported' w cause d t
+    (subst (OrderBy w e i.pending (writers out out' reported reported')) f h)
 
-pub needs_so : (w v : Wanted) (e e' : Engine) (i j : Held) (c : Contents) (r : Result Wanted Cause) → r ≡ Ok v → HandGives w e e' i j c r → HandNeeds w e i v e' j c
+pub needs_so : (w v : Wanted) (e e' : Engine) (i j : Held) (c : Contents) (r : Result Wanted Cause) → r ≡ Ok v
+    → HandGives w e e' i j c r → HandNeeds w e i v e' j c
 needs_so w v e e' i j c r f h = subst (HandGives w e e' i j c) f h
 
 -- the next block is missing
@@ -517,8 +560,10 @@ pub stopped_by : (e0 e e' : Engine) (p0 : Pending) (i j k : Held) (before after 
     → Taking e0 p0 before after out0 reported0 w e i out reported
     → HandNeeds w e i v e' j (writers out out' reported reported') → ReadsOn v e' after later j k (Err f)
     → Expands e0 e' p0 before later (writers out0 out' reported0 reported') (fault_cause f)
-stopped_by e0 e e' p0 i j k before after later out0 reported0 out reported out' reported' w v faults.Read d t h g = fell_all e0 e e' p0 i j k before after later out0 reported0 out reported out' reported' w v faults.Read d t h g.0 g.1
-stopped_by e0 e e' p0 i j k before after later out0 reported0 out reported out' reported' w v faults.OutOfMemory d t h g = lacked_all e0 e e' p0 i j k before after later out0 reported0 out reported out' reported' w v faults.OutOfMemory d t h g
+stopped_by e0 e e' p0 i j k before after later out0 reported0 out reported out' reported' w v faults.Read d t h g =
+    fell_all e0 e e' p0 i j k before after later out0 reported0 out reported out' reported' w v faults.Read d t h g.0 g.1
+stopped_by e0 e e' p0 i j k before after later out0 reported0 out reported out' reported' w v faults.OutOfMemory d t h
+    g = lacked_all e0 e e' p0 i j k before after later out0 reported0 out reported out' reported' w v faults.OutOfMemory d t h g
 stopped_by e0 e e' p0 i j k before after later out0 reported0 out reported out' reported' w v (faults.EndInString n) d t h g = absurd g
 stopped_by e0 e e' p0 i j k before after later out0 reported0 out reported out' reported' w v (faults.EndInComment n) d t h g = absurd g
 
@@ -528,7 +573,8 @@ pub stopped_so : (e0 e e' : Engine) (p0 : Pending) (i j k : Held) (before after 
     → HandNeeds w e i v e' j (writers out out' reported reported') → ReadsOn v e' after later j k (Err f)
     → Expands e0 e' p0 before later (writers out0 out' reported0 reported') cause
 stopped_so e0 e e' p0 i j k before after later out0 reported0 out reported out' reported' w v f cause c d t h g =
-    subst (Expands e0 e' p0 before later (writers out0 out' reported0 reported')) (sym c) (stopped_by e0 e e' p0 i j k before after later out0 reported0 out reported out' reported' w v f d t h g)
+    subst (Expands e0 e' p0 before later (writers out0 out' reported0 reported')) (sym c)
+    (stopped_by e0 e e' p0 i j k before after later out0 reported0 out reported out' reported' w v f d t h g)
 
 -- what was written before the next block was asked for
 told_by : (e0 e e' : Engine) (p0 : Pending) (i j k : Held) (before after later : Option Script)
@@ -537,7 +583,8 @@ told_by : (e0 e e' : Engine) (p0 : Pending) (i j k : Held) (before after later :
     → HandNeeds w e i v e' j (writers out out' reported reported') → ReadsOn v e' after later j k (Err f)
     → StepBreaksBy e0 p0 before later (writers out0 out' reported0 reported') (fault_cause f)
 told_by e0 e e' p0 i j k before after later out0 reported0 out reported out' reported' w v faults.Read d t h g = tt
-told_by e0 e e' p0 i j k before after later out0 reported0 out reported out' reported' w v faults.OutOfMemory d t h g = lacked_told e0 e e' p0 i j k before after later out0 reported0 out reported out' reported' w v faults.OutOfMemory d t h g
+told_by e0 e e' p0 i j k before after later out0 reported0 out reported out' reported' w v faults.OutOfMemory d t h g =
+    lacked_told e0 e e' p0 i j k before after later out0 reported0 out reported out' reported' w v faults.OutOfMemory d t h g
 told_by e0 e e' p0 i j k before after later out0 reported0 out reported out' reported' w v (faults.EndInString n) d t h g = absurd g
 told_by e0 e e' p0 i j k before after later out0 reported0 out reported out' reported' w v (faults.EndInComment n) d t h g = absurd g
 
@@ -547,16 +594,23 @@ pub told_at_fault : (e0 e e' : Engine) (p0 : Pending) (i j k : Held) (before aft
     → HandNeeds w e i v e' j (writers out out' reported reported') → ReadsOn v e' after later j k (Err f)
     → StepBreaksBy e0 p0 before later (writers out0 out' reported0 reported') cause
 told_at_fault e0 e e' p0 i j k before after later out0 reported0 out reported out' reported' w v f cause c d t h g =
-    subst (StepBreaksBy e0 p0 before later (writers out0 out' reported0 reported')) (sym c) (told_by e0 e e' p0 i j k before after later out0 reported0 out reported out' reported' w v f d t h g)
+    subst (StepBreaksBy e0 p0 before later (writers out0 out' reported0 reported')) (sym c)
+    (told_by e0 e e' p0 i j k before after later out0 reported0 out reported out' reported' w v f d t h g)
 
 -- a reader that failed, by the fault
-pub fault_counted : (v : Wanted) (e : Engine) (a b : Option Script) (j k : Held) (f : InputFault) (old mid new : ℕ) → j.fault ≡ None → ReadsOn v e a b j k (Err f) → mid ≡ old → new ≡ failures_after j.fault k.fault mid → ReadsBy (fault_cause f) old new
-fault_counted v e a b j k faults.Read old mid new n g i c = c ∙ ap (λ o. failures_after o k.fault mid) n ∙ ap (λ (h : Held). failures_after None h.fault mid) (g.0).stopped ∙ ap one_more i
-fault_counted v e a b j k faults.OutOfMemory old mid new n g i c = c ∙ ap (λ o. failures_after o k.fault mid) n ∙ ap (λ (h : Held). failures_after None h.fault mid) g.stopped ∙ i
+pub fault_counted : (v : Wanted) (e : Engine) (a b : Option Script) (j k : Held) (f : InputFault) (old mid new : ℕ)
+    → j.fault ≡ None → ReadsOn v e a b j k (Err f) → mid ≡ old → new ≡ failures_after j.fault k.fault mid
+    → ReadsBy (fault_cause f) old new
+fault_counted v e a b j k faults.Read old mid new n g i c = c ∙ ap (λ o. failures_after o k.fault mid) n
+    ∙ ap (λ (h : Held). failures_after None h.fault mid) (g.0).stopped ∙ ap one_more i
+fault_counted v e a b j k faults.OutOfMemory old mid new n g i c = c ∙ ap (λ o. failures_after o k.fault mid) n
+    ∙ ap (λ (h : Held). failures_after None h.fault mid) g.stopped ∙ i
 fault_counted v e a b j k (faults.EndInString l) old mid new n g i c = absurd g
 fault_counted v e a b j k (faults.EndInComment l) old mid new n g i c = absurd g
 
-pub fault_counted_so : (v : Wanted) (e : Engine) (a b : Option Script) (j k : Held) (f : InputFault) (cause : Cause) (old mid new : ℕ) → cause ≡ fault_cause f → j.fault ≡ None → ReadsOn v e a b j k (Err f) → mid ≡ old → new ≡ failures_after j.fault k.fault mid → ReadsBy cause old new
+pub fault_counted_so : (v : Wanted) (e : Engine) (a b : Option Script) (j k : Held) (f : InputFault) (cause : Cause)
+    (old mid new : ℕ) → cause ≡ fault_cause f → j.fault ≡ None → ReadsOn v e a b j k (Err f) → mid ≡ old
+    → new ≡ failures_after j.fault k.fault mid → ReadsBy cause old new
 fault_counted_so v e a b j k f cause old mid new h n g i c = subst (λ (x : Cause). ReadsBy x old new) (sym h) (fault_counted v e a b j k f old mid new n g i c)
 
 -- a reader or an allocation failed
@@ -577,5 +631,6 @@ none_failed cause f w h n = subst (λ (x : Cause). FailsBy x w) (sym h) (by_faul
     by_fault (faults.EndInComment l) = n
 
 -- a block that came is no failure
-pub came_counted : (v : Wanted) (e : Engine) (a b : Option Script) (j k : Held) (mid new : ℕ) → j.fault ≡ None → HasReadOn v e a b j k → new ≡ failures_after j.fault k.fault mid → new ≡ mid
+pub came_counted : (v : Wanted) (e : Engine) (a b : Option Script) (j k : Held) (mid new : ℕ) → j.fault ≡ None
+    → HasReadOn v e a b j k → new ≡ failures_after j.fault k.fault mid → new ≡ mid
 came_counted v e a b j k mid new n g c = c ∙ ap (λ o. failures_after o k.fault mid) n ∙ ap (λ o. failures_after None o mid) g.sound

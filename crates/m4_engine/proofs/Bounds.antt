@@ -7,11 +7,9 @@ module _ (S F D : Type 0) (turn : S → Turn S F D) (join : F → S → Outcome 
   abbrev pub level' : (S → Outcome S D) → ℕ → S → Outcome S D
   level' = level S F D turn join spent size
 
-  abbrev pub nested' : ℕ → S → Outcome S D
-  nested' = nested S F D turn join spent size
-
   -- with more tokens than its text has bytes, a level comes to the same
-  pub enough_tokens : ((s t : S) → turn s ≡ GoOn t → size t < size s) → (fewer : S → Outcome S D) (m k : ℕ) (s : S) → size s < m → size s < k → level' fewer m s ≡ level' fewer k s
+  pub enough_tokens : ((s t : S) → turn s ≡ GoOn t → size t < size s) → (fewer : S → Outcome S D) (m k : ℕ) (s : S)
+      → size s < m → size s < k → level' fewer m s ≡ level' fewer k s
   enough_tokens falls fewer zero k s h g = absurd (omega arith)
   enough_tokens falls fewer (suc m) zero s h g = absurd (omega arith)
   enough_tokens falls fewer (suc m) (suc k) s h g =
@@ -23,7 +21,8 @@ module _ (S F D : Type 0) (turn : S → Turn S F D) (join : F → S → Outcome 
         | Opens f t ↦ λ e. refl
       ]) refl
 
-module _ (S F D : Type 0) (turn : S → Turn S F D) (join : F → S → Outcome S D) (spent : S → D) (size left : S → ℕ) (falls : Falls S F D turn join size left) where
+module _ (S F D : Type 0) (turn : S → Turn S F D) (join : F → S → Outcome S D) (spent : S → D) (size left : S → ℕ)
+    (falls : Falls S F D turn join size left) where
   abbrev goes : (S → Outcome S D) → ℕ → S → Outcome S D
   goes = level S F D turn join spent size
 
@@ -34,12 +33,15 @@ module _ (S F D : Type 0) (turn : S → Turn S F D) (join : F → S → Outcome 
   abbrev Keeps : (S → Outcome S D) → Type 0
   Keeps fewer = (s t : S) → fewer s ≡ Closed t → left t ≤ left s
 
-  then_keeps : (fewer : S → Outcome S D) → Keeps fewer → (s t : S) → (o p : Outcome S D) → fewer t ≡ o → (join' : S → Outcome S D) → ((u w : S) → join' u ≡ Closed w → left w ≤ left u) → (v : S) → then_on (then_on o join') fewer ≡ Closed v → left v ≤ left t
+  then_keeps : (fewer : S → Outcome S D) → Keeps fewer → (s t : S) → (o p : Outcome S D) → fewer t ≡ o
+      → (join' : S → Outcome S D) → ((u w : S) → join' u ≡ Closed w → left w ≤ left u) → (v : S)
+      → then_on (then_on o join') fewer ≡ Closed v → left v ≤ left t
   then_keeps fewer keeps s t (Halted d) p e j h v c = cc
   then_keeps fewer keeps s t (Closed u) p e j h v c =
       (elim (j u) as (λ o. j u ≡ o → then_on o fewer ≡ Closed v → left v ≤ left t) [
         | Halted d ↦ λ e' c'. cc
-        | Closed w ↦ λ e' c'. let a : left u ≤ left t = keeps t u e in let b : left w ≤ left u = h u w e' in let d : left v ≤ left w = keeps w v c' in omega arith
+        | Closed w ↦ λ e' c'. let a : left u ≤ left t = keeps t u e in let b : left w ≤ left u =
+            h u w e' in let d : left v ≤ left w = keeps w v c' in omega arith
       ]) refl c
 
   goes_keeps : (fewer : S → Outcome S D) → Keeps fewer → (m : ℕ) → Keeps (goes fewer m)
@@ -50,7 +52,8 @@ module _ (S F D : Type 0) (turn : S → Turn S F D) (join : F → S → Outcome 
         | Close u ↦ λ f g. let a : left u ≤ left s = falls.close s u f in let b : u ≡ t = cc in subst (λ (x : S). left x ≤ left s) b a
         | GoOn u ↦ λ f g. let a : left u ≤ left s = falls.go_on s u f in let b : left t ≤ left u = goes_keeps fewer keeps m u t g in omega arith
         | Bare u ↦ λ f g. let a : left u < left s = falls.bare s u f in let b : left t ≤ left u = keeps u t g in omega arith
-        | Opens h u ↦ λ f g. let a : left u < left s = falls.opens s u h f in let b : left t ≤ left u = then_keeps fewer keeps s u (fewer u) (fewer u) refl (join h) (falls.joins h) t g in omega arith
+        | Opens h u ↦ λ f g. let a : left u < left s = falls.opens s u h f in let b : left t ≤ left u =
+            then_keeps fewer keeps s u (fewer u) (fewer u) refl (join h) (falls.joins h) t g in omega arith
       ]) refl e
 
   pub nests_keeps : (n : ℕ) → Keeps (nests n)
@@ -58,7 +61,8 @@ module _ (S F D : Type 0) (turn : S → Turn S F D) (join : F → S → Outcome 
   nests_keeps (suc n) s t e = goes_keeps (nests n) (nests_keeps n) (suc (size s)) s t e
 
   -- what follows a list is the same by either expansion
-  then_same : (fewer fewer' : S → Outcome S D) → Keeps fewer → (l : ℕ) → ((t : S) → left t < l → fewer t ≡ fewer' t) → (f : F) (t : S) → left t < l → then_on (then_on (fewer t) (join f)) fewer ≡ then_on (then_on (fewer' t) (join f)) fewer'
+  then_same : (fewer fewer' : S → Outcome S D) → Keeps fewer → (l : ℕ) → ((t : S) → left t < l → fewer t ≡ fewer' t)
+      → (f : F) (t : S) → left t < l → then_on (then_on (fewer t) (join f)) fewer ≡ then_on (then_on (fewer' t) (join f)) fewer'
   then_same fewer fewer' keeps l same f t h =
       (elim (fewer t) as (λ o. fewer t ≡ o → then_on (then_on o (join f)) fewer ≡ then_on (then_on o (join f)) fewer') [
         | Halted d ↦ λ e. refl
@@ -68,7 +72,8 @@ module _ (S F D : Type 0) (turn : S → Turn S F D) (join : F → S → Outcome 
         ]) refl
       ]) refl ∙ ap (λ o. then_on (then_on o (join f)) fewer') (same t h)
 
-  goes_same : (fewer fewer' : S → Outcome S D) → Keeps fewer → (l : ℕ) → ((t : S) → left t < l → fewer t ≡ fewer' t) → (m : ℕ) (s : S) → left s ≤ l → goes fewer m s ≡ goes fewer' m s
+  goes_same : (fewer fewer' : S → Outcome S D) → Keeps fewer → (l : ℕ) → ((t : S) → left t < l → fewer t ≡ fewer' t)
+      → (m : ℕ) (s : S) → left s ≤ l → goes fewer m s ≡ goes fewer' m s
   goes_same fewer fewer' keeps l same zero s h = refl
   goes_same fewer fewer' keeps l same (suc m) s h =
       (elim (turn s) as (λ v. turn s ≡ v → after S F D join fewer (goes fewer m) v ≡ after S F D join fewer' (goes fewer' m) v) [

@@ -17,9 +17,12 @@ pub record Rules (S F D : Type 0) (turn : S → Turn S F D) (join : F → S → 
   -- the level continues after the call
   pub joins : (s t u w : S) (f : F) (o : Outcome S D) → turn s ≡ Opens f t → Post t (Closed u) → join f u ≡ Closed w → Post w o → Post s o
 
-module _ (S F D : Type 0) (turn : S → Turn S F D) (join : F → S → Outcome S D) (spent : S → D) (size left : S → ℕ) (falls : Falls S F D turn join size left) (Post : S → Outcome S D → Type 0) (rules : Rules S F D turn join Post) where
+module _ (S F D : Type 0) (turn : S → Turn S F D) (join : F → S → Outcome S D) (spent : S → D) (size left : S → ℕ)
+    (falls : Falls S F D turn join size left) (Post : S → Outcome S D → Type 0) (rules : Rules S F D turn join Post) where
   -- after a call's list
-  after_list : (fewer : S → Outcome S D) (l : ℕ) → ((a : S) → left a < l → Post a (fewer a)) → ((a b : S) → fewer a ≡ Closed b → left b ≤ left a) → (s t : S) (f : F) → turn s ≡ Opens f t → left t < l → (o : Outcome S D) → fewer t ≡ o → Post t o → Post s (then_on (then_on o (join f)) fewer)
+  after_list : (fewer : S → Outcome S D) (l : ℕ) → ((a : S) → left a < l → Post a (fewer a))
+      → ((a b : S) → fewer a ≡ Closed b → left b ≤ left a) → (s t : S) (f : F) → turn s ≡ Opens f t → left t < l
+      → (o : Outcome S D) → fewer t ≡ o → Post t o → Post s (then_on (then_on o (join f)) fewer)
   after_list fewer l h keeps s t f e g (Halted d) i p = rules.list_halts s t f d e p
   after_list fewer l h keeps s t f e g (Closed u) i p =
       (elim (join f u) as (λ o. join f u ≡ o → Post s (then_on o fewer)) [
@@ -30,7 +33,9 @@ module _ (S F D : Type 0) (turn : S → Turn S F D) (join : F → S → Outcome 
             rules.joins s t u w f (fewer w) e p j (h w (omega arith))
       ]) refl
 
-  level_holds : (fewer : S → Outcome S D) (l : ℕ) → ((a : S) → left a < l → Post a (fewer a)) → ((a b : S) → fewer a ≡ Closed b → left b ≤ left a) → (m : ℕ) (s : S) → left s ≤ l → size s < m → Post s (level S F D turn join spent size fewer m s)
+  level_holds : (fewer : S → Outcome S D) (l : ℕ) → ((a : S) → left a < l → Post a (fewer a))
+      → ((a b : S) → fewer a ≡ Closed b → left b ≤ left a) → (m : ℕ) (s : S) → left s ≤ l → size s < m
+      → Post s (level S F D turn join spent size fewer m s)
   level_holds fewer l h keeps zero s g z = absurd (omega arith)
   level_holds fewer l h keeps (suc m) s g z =
       (elim (turn s) as (λ v. turn s ≡ v → Post s (after S F D join fewer (level S F D turn join spent size fewer m) v)) [
@@ -48,7 +53,9 @@ module _ (S F D : Type 0) (turn : S → Turn S F D) (join : F → S → Outcome 
 
   nested_holds : (n : ℕ) (s : S) → left s < n → Post s (nested S F D turn join spent size n s)
   nested_holds zero s g = absurd (omega arith)
-  nested_holds (suc n) s g = level_holds (nested S F D turn join spent size n) (left s) (λ a k. nested_holds n a (omega arith)) (nests_keeps S F D turn join spent size left falls n) (suc (size s)) s (omega arith) (omega arith)
+  nested_holds (suc n) s g = level_holds (nested S F D turn join spent size n) (left s)
+      (λ a k. nested_holds n a (omega arith)) (nests_keeps S F D turn join spent size left falls n) (suc (size s)) s
+      (omega arith) (omega arith)
 
   -- the whole expansion
   pub holds : (s : S) → Post s (expansion S F D turn join spent size left s)

@@ -74,14 +74,17 @@ called_left c t k = effected_left _ _ _ (after_call c t k)
 enter_list_good : (listed : Bool) (c : Call) (p : Pending) (s : Expansion) → (s.so_far).calls < (s.limits).calls → Good s (collect listed c p (with_call s))
 unfolding Good
 enter_list_good true c p s h = omega arith
-enter_list_good false c p s h = good_bare s (calls_left (with_call s)) (omega arith) (called c (reading p (with_call s)) (kept_of s)) (called_left c (reading p (with_call s)) (kept_of s))
+enter_list_good false c p s h = good_bare s (calls_left (with_call s)) (omega arith)
+    (called c (reading p (with_call s)) (kept_of s)) (called_left c (reading p (with_call s)) (kept_of s))
 
-enter_good : (deep listed : Bool) (c : Call) (p : Pending) (s : Expansion) → (s.so_far).calls < (s.limits).calls → Good s (call_unless_deep deep listed c p (with_call s))
+enter_good : (deep listed : Bool) (c : Call) (p : Pending) (s : Expansion) → (s.so_far).calls < (s.limits).calls
+    → Good s (call_unless_deep deep listed c p (with_call s))
 unfolding Good
 enter_good true listed c p s h = tt
 enter_good false listed c p s h = enter_list_good listed c p s h
 
-call_if_good : (room listed : Bool) (c : Call) (p : Pending) (s : Expansion) → (room ≡ true → (s.so_far).calls < (s.limits).calls) → Good s (call_if_room room listed c p s)
+call_if_good : (room listed : Bool) (c : Call) (p : Pending) (s : Expansion)
+    → (room ≡ true → (s.so_far).calls < (s.limits).calls) → Good s (call_if_room room listed c p s)
 unfolding Good
 call_if_good true listed c p s h = enter_good (is_deep s) listed c p s (h refl)
 call_if_good false listed c p s h = tt
@@ -157,7 +160,8 @@ found_less p t n e h g =
     let b : definition_size p.definition ≡ 0 = ap definition_size e in
     omega arith
 
-seen_less : (p : Pending) → p.definition ≡ None → (v : Scan) → HasBytes v → ((t : Token) (n : ℕ) → v ≡ Found t n → (t ≡ End) ⊎ (0 < length (text_of p))) → LeavesLess p (front_by p v)
+seen_less : (p : Pending) → p.definition ≡ None → (v : Scan) → HasBytes v
+    → ((t : Token) (n : ℕ) → v ≡ Found t n → (t ≡ End) ⊎ (0 < length (text_of p))) → LeavesLess p (front_by p v)
 unfolding HasBytes LeavesLess
 seen_less p e (Found End n) h g = inl refl
 seen_less p e (Found (Name x) n) h g = ⊎_elim (λ i. inl i) (λ l. inr (found_less p (Name x) n e l h)) (g (Name x) n refl)
@@ -186,7 +190,8 @@ on_seen_good (Refused f n) s h = tt
 on_seen_good More s h = tt
 
 pub turn_good : (s : Expansion) → Good s (turn s)
-turn_good s = on_seen_good (token_at ((s.so_far).state).quotes ((s.so_far).state).comments s.pending) s (from_less (s.pending).definition ((s.so_far).state).quotes ((s.so_far).state).comments s.pending refl)
+turn_good s = on_seen_good (token_at ((s.so_far).state).quotes ((s.so_far).state).comments s.pending) s
+    (from_less (s.pending).definition ((s.so_far).state).quotes ((s.so_far).state).comments s.pending refl)
 
 join_left : (m : Mode) (s : Kept) (t u : Expansion) → join_by m s t ≡ Closed u → calls_left u ≤ calls_left t
 unfolding HasLeft

@@ -61,6 +61,7 @@ chain o freezes frozen sources (l ∷ ls) carry limit =
     let second : RunResult = run (freezing freezes (prefixed l.prefix o)) (Some (frozen_file text)) (all_sources l.sources ls) in
     let two : Joins first second joint = split o freezes l.prefix frozen sources (all_sources l.sources ls) text carry.0 froze limit in
     let on : AllCarry (prefixed l.prefix o) (Some (frozen_file text)) l.sources ls = subst (λ f. AllCarry (prefixed l.prefix o) f l.sources ls) file carry.2 in
-    let rest : JoinsAll (the_chain (prefixed l.prefix o) freezes (Some (frozen_file text)) l.sources ls) second = chain (prefixed l.prefix o) freezes (Some (frozen_file text)) l.sources ls on (λ e. limit (two.reason ∙ e)) in
+    let rest : JoinsAll (the_chain (prefixed l.prefix o) freezes (Some (frozen_file text)) l.sources ls) second =
+    chain (prefixed l.prefix o) freezes (Some (frozen_file text)) l.sources ls on (λ e. limit (two.reason ∙ e)) in
     subst (λ f. JoinsAll (first ∷ the_chain (prefixed l.prefix o) freezes f l.sources ls) joint) (sym file)
     (one_more first second joint _ two rest)

@@ -35,7 +35,8 @@ finish_spares w (Ok done) s = tt
 finish_spares w (Err stops.Finished) s = s
 finish_spares w (Err (stops.Ended cause)) s = spares_any cause w s
 
-finish_fails : (f : Failures) (k : ℕ) (w : Three (Option (List ℕ))) (r : Result Unit Stop) → IsSpared w → WriteFails r f → ThreeFail r (record { two = f; frozen_old = k; frozen_new = k }) w
+finish_fails : (f : Failures) (k : ℕ) (w : Three (Option (List ℕ))) (r : Result Unit Stop) → IsSpared w → WriteFails r f
+    → ThreeFail r (record { two = f; frozen_old = k; frozen_new = k }) w
 finish_fails f k w (Ok done) s h = (h, refl)
 finish_fails f k w (Err stops.Finished) s h = (h, refl)
 finish_fails f k w (Err (stops.Ended causes.Write)) s h = inl (h, refl, s)
@@ -105,7 +106,9 @@ module _ {O M Z : Type 0} (co : O → Option (List ℕ)) (cm : M → Option (Lis
       (subst (λ (v : Result Unit Stop). Closes freezes old o m z new o' m' z' v) (sym e5) h))))
 
 -- the writers of a run that its end breaks off, by its answer: none failed before
-spares_same : (A B : Type 0) (e : Stop) (two two' : Contents) (frozen frozen' : Option (List ℕ)) → SparesBy {A = A} (Err e) (record { two = two; frozen_old = frozen; frozen_new = frozen' }) → SparesBy {A = B} (Err e) (record { two = two'; frozen_old = frozen; frozen_new = frozen' })
+spares_same : (A B : Type 0) (e : Stop) (two two' : Contents) (frozen frozen' : Option (List ℕ))
+    → SparesBy {A = A} (Err e) (record { two = two; frozen_old = frozen; frozen_new = frozen' })
+    → SparesBy {A = B} (Err e) (record { two = two'; frozen_old = frozen; frozen_new = frozen' })
 spares_same A B stops.Finished two two' frozen frozen' h = h
 spares_same A B (stops.Ended cause) two two' frozen frozen' h = spared_answer cause two two' frozen frozen' h
 

@@ -51,7 +51,8 @@ module _ (z : List ℕ) (b : Bool) where
   SeenStays : Front → Front → Type 0
   SeenStays v w = (v ≡ More) ⊎ (w ≡ longer_seen v)
 
-  seen_by_stays : (p : Pending) (v w : Scan) → ((t : Token) (n : ℕ) → v ≡ Found t n → n ≤ length (text_of p)) → (v ≡ NeedsMore) ⊎ (w ≡ v) → SeenStays (front_by p v) (front_by (longer z b p) w)
+  seen_by_stays : (p : Pending) (v w : Scan) → ((t : Token) (n : ℕ) → v ≡ Found t n → n ≤ length (text_of p))
+      → (v ≡ NeedsMore) ⊎ (w ≡ v) → SeenStays (front_by p v) (front_by (longer z b p) w)
   unfolding SeenStays longer_seen
   seen_by_stays p v w h (inl e) = inl (ap (front_by p) e)
   seen_by_stays p (Found t n) w h (inr e) = inr (ap (front_by (longer z b p)) e ∙ ap (Taken t) (consumed_longer z b n p (h t n refl)))
@@ -66,11 +67,13 @@ module _ (z : List ℕ) (b : Bool) where
       subst P (sym e) (subst (λ x. SeenStays (front_by p (scan q c true (text_of p))) (front_by (longer z b p) (scan q c b x))) (sym (text_longer z b p))
       (seen_by_stays p _ _ (λ t n f. scan_fits q c (text_of p) t n f) (scan_stays q c b (text_of p) z)))
 
-  paren_stays : (o : Option Def) (q c : Delimiters) (p : Pending) → p.may_follow ≡ true → (paren_from o q c p ≡ Unknown) ⊎ (paren_from o q c (longer z b p) ≡ paren_from o q c p)
+  paren_stays : (o : Option Def) (q c : Delimiters) (p : Pending) → p.may_follow ≡ true
+      → (paren_from o q c p ≡ Unknown) ⊎ (paren_from o q c (longer z b p) ≡ paren_from o q c p)
   paren_stays (Some d) q c p e = inr refl
   paren_stays None q c p e =
       let P : Bool → Type 0 = λ v. (paren_in q c v (text_of p) ≡ Unknown) ⊎ (paren_in q c b (text_of (longer z b p)) ≡ paren_in q c v (text_of p)) in
-      subst P (sym e) (subst (λ x. (paren_in q c true (text_of p) ≡ Unknown) ⊎ (paren_in q c b x ≡ paren_in q c true (text_of p))) (sym (text_longer z b p)) (paren_in_stays q c b (text_of p) z))
+      subst P (sym e) (subst (λ x. (paren_in q c true (text_of p) ≡ Unknown)
+      ⊎ (paren_in q c b x ≡ paren_in q c true (text_of p))) (sym (text_longer z b p)) (paren_in_stays q c b (text_of p) z))
 
   -- what the turns of a level and of the longer one have to do with one another
   abbrev Meets : Turn Expansion Kept Ended → Turn Expansion Kept Ended → Type 0
@@ -87,7 +90,8 @@ module _ (z : List ℕ) (b : Bool) where
   abbrev L : Expansion → Expansion
   L s = longer_level z b s
 
-  skipped_meets : (o o' : Option ℕ) (s : Expansion) → (s.pending).may_follow ≡ true → ((n : ℕ) → o ≡ Some n → (o' ≡ Some n) × (n ≤ length (text_of s.pending))) → MeetsOut (skip_line o s) (skip_line o' (L s))
+  skipped_meets : (o o' : Option ℕ) (s : Expansion) → (s.pending).may_follow ≡ true
+      → ((n : ℕ) → o ≡ Some n → (o' ≡ Some n) × (n ≤ length (text_of s.pending))) → MeetsOut (skip_line o s) (skip_line o' (L s))
   skipped_meets None o' s h f =
       let P : Bool → Type 0 = λ v. MeetsOut (skip_all v s) (skip_line o' (L s)) in
       subst P (sym h) (inl (refl, skipped_keeps o' (L s)))
@@ -98,9 +102,11 @@ module _ (z : List ℕ) (b : Bool) where
   pub line_stays : (x : List ℕ) (n : ℕ) → line_length x ≡ Some n → (line_length (x ++ z) ≡ Some n) × (n ≤ length x)
   line_stays [] n e = cc
   line_stays (c ∷ x) n e =
-      (elim (c == 10) as (λ v. (elim v [ true ↦ Some 1 | false ↦ one_more (line_length x) ]) ≡ Some n → ((elim v [ true ↦ Some 1 | false ↦ one_more (line_length (x ++ z)) ]) ≡ Some n) × (n ≤ length (c ∷ x))) [
+      (elim (c == 10) as (λ v. (elim v [ true ↦ Some 1 | false ↦ one_more (line_length x) ]) ≡ Some n
+      → ((elim v [ true ↦ Some 1 | false ↦ one_more (line_length (x ++ z)) ]) ≡ Some n) × (n ≤ length (c ∷ x))) [
         | true ↦ λ f. (f, (let m : 1 ≡ n = cc in omega arith))
-        | false ↦ λ f. let h = one_more_is (line_length x) n f in let k = line_stays x h.0 h.1 in let l : h.0 ≤ length x = k.1 in let m : n ≡ suc h.0 = h.2 in (ap one_more k.0 ∙ sym (ap Some h.2), omega arith)
+        | false ↦ λ f. let h = one_more_is (line_length x) n f in let k = line_stays x h.0 h.1 in let l : h.0
+            ≤ length x = k.1 in let m : n ≡ suc h.0 = h.2 in (ap one_more k.0 ∙ sym (ap Some h.2), omega arith)
       ]) e
 
   pushed_same : (v : Option Pushed) (p : Pending) → with_value v (longer z b p) ≡ longer z b (with_value v p)
@@ -113,11 +119,14 @@ module _ (z : List ℕ) (b : Bool) where
   pushed_partial (Some (pushes.Text x)) p = refl
   pushed_partial (Some (pushes.Definition d)) p = refl
 
-  pushed_meets : (skip : Bool) (v : Option Pushed) (s : Expansion) → (s.pending).may_follow ≡ true → MeetsOut (skip_or_push skip v s) (skip_or_push skip v (L s))
-  pushed_meets true v s h = skipped_meets (line_length (text_of s.pending)) _ s h (λ n e. let k = line_stays (text_of s.pending) n e in (ap line_length (text_longer z b s.pending) ∙ k.0, k.1))
+  pushed_meets : (skip : Bool) (v : Option Pushed) (s : Expansion) → (s.pending).may_follow ≡ true
+      → MeetsOut (skip_or_push skip v s) (skip_or_push skip v (L s))
+  pushed_meets true v s h = skipped_meets (line_length (text_of s.pending)) _ s h
+      (λ n e. let k = line_stays (text_of s.pending) n e in (ap line_length (text_longer z b s.pending) ∙ k.0, k.1))
   pushed_meets false v s h = (ap (λ p. Closed (reading p (L s))) (pushed_same v s.pending), pushed_partial v s.pending ∙ h)
 
-  effected_meets : (n : Option ℕ) (skip : Bool) (v : Option Pushed) (s : Expansion) → (s.pending).may_follow ≡ true → MeetsOut (effected n skip v s) (effected n skip v (L s))
+  effected_meets : (n : Option ℕ) (skip : Bool) (v : Option Pushed) (s : Expansion) → (s.pending).may_follow ≡ true
+      → MeetsOut (effected n skip v s) (effected n skip v (L s))
   effected_meets (Some n) skip v s h = inr (refl, λ e. cc)
   effected_meets None skip v s h = pushed_meets skip v s h
 
@@ -129,28 +138,45 @@ module _ (z : List ℕ) (b : Bool) where
   bare_meets (Halted d) o' (inr e) = inr (ap bare e.0, e.1)
   bare_meets (Closed u) o' h = (ap bare h.0, h.1)
 
-  enter_list_meets : (listed : Bool) (c : Call) (p : Pending) (s : Expansion) → p.may_follow ≡ true → (listed ≡ true → 0 < length (text_of p)) → Meets (collect listed c p s) (collect listed c (longer z b p) (L s))
-  enter_list_meets true c p s h g = (ap (λ q. Opens (kept_of s) (record s { pending = q; open_calls = suc s.open_calls; mode = Collecting c })) (consumed_longer z b 1 p (g refl)), h)
-  enter_list_meets false c p s h g = bare_meets (called c (reading p s) (kept_of s)) (called c (L (reading p s)) (kept_of s)) (called_meets c (reading p s) (kept_of s) h)
+  enter_list_meets : (listed : Bool) (c : Call) (p : Pending) (s : Expansion) → p.may_follow ≡ true
+      → (listed ≡ true → 0 < length (text_of p)) → Meets (collect listed c p s) (collect listed c (longer z b p) (L s))
+  enter_list_meets true c p s h g = (
+    ap (λ q. Opens (kept_of s)
+        (record s { pending = q; open_calls = suc s.open_calls; mode = Collecting c })) (consumed_longer z b 1 p (g refl)),
+    h,
+  )
+  enter_list_meets false c p s h g = bare_meets (called c (reading p s) (kept_of s))
+      (called c (L (reading p s)) (kept_of s)) (called_meets c (reading p s) (kept_of s) h)
 
-  enter_meets : (deep listed : Bool) (c : Call) (p : Pending) (s : Expansion) → p.may_follow ≡ true → (listed ≡ true → 0 < length (text_of p)) → Meets (call_unless_deep deep listed c p s) (call_unless_deep deep listed c (longer z b p) (L s))
+  enter_meets : (deep listed : Bool) (c : Call) (p : Pending) (s : Expansion) → p.may_follow ≡ true
+      → (listed ≡ true → 0 < length (text_of p))
+      → Meets (call_unless_deep deep listed c p s) (call_unless_deep deep listed c (longer z b p) (L s))
   enter_meets true listed c p s h g = inr (refl, λ e. cc)
   enter_meets false listed c p s h g = enter_list_meets listed c p s h g
 
-  call_if_meets : (room listed : Bool) (c : Call) (p : Pending) (s : Expansion) → p.may_follow ≡ true → (listed ≡ true → 0 < length (text_of p)) → Meets (call_if_room room listed c p s) (call_if_room room listed c (longer z b p) (L s))
+  call_if_meets : (room listed : Bool) (c : Call) (p : Pending) (s : Expansion) → p.may_follow ≡ true
+      → (listed ≡ true → 0 < length (text_of p))
+      → Meets (call_if_room room listed c p s) (call_if_room room listed c (longer z b p) (L s))
   call_if_meets true listed c p s h g = enter_meets (is_deep s) listed c p (with_call s) h g
   call_if_meets false listed c p s h g = inr (refl, λ e. cc)
 
-  unlisted_meets : (v : Bool) (c : Call) (p : Pending) (s : Expansion) → p.may_follow ≡ true → Meets (call_without_list v c p s) (call_without_list v c (longer z b p) (L s))
+  unlisted_meets : (v : Bool) (c : Call) (p : Pending) (s : Expansion) → p.may_follow ≡ true
+      → Meets (call_without_list v c p s) (call_without_list v c (longer z b p) (L s))
   unlisted_meets true c p s h = (refl, h)
   unlisted_meets false c p s h = call_if_meets (nat_lt (s.so_far).calls (s.limits).calls) false c p s h (λ e. cc)
 
-  on_answer_meets : (a a' : Answer) (c : Call) (p : Pending) (s : Expansion) → p.may_follow ≡ true → (a ≡ Yes → 0 < length (text_of p)) → (a ≡ Unknown) ⊎ (a' ≡ a) → Meets (take_call a c p s) (take_call a' c (longer z b p) (L s))
+  on_answer_meets : (a a' : Answer) (c : Call) (p : Pending) (s : Expansion) → p.may_follow ≡ true
+      → (a ≡ Yes → 0 < length (text_of p)) → (a ≡ Unknown) ⊎ (a' ≡ a)
+      → Meets (take_call a c p s) (take_call a' c (longer z b p) (L s))
   on_answer_meets Unknown a' c p s h g e = inl (refl, on_answer_keeps a' c (longer z b p) (L s))
   on_answer_meets Yes a' c p s h g (inl e) = cc
-  on_answer_meets Yes a' c p s h g (inr e) = subst (λ x. Meets (take_call Yes c p s) (take_call x c (longer z b p) (L s))) (sym e) (call_if_meets (nat_lt (s.so_far).calls (s.limits).calls) true c p s h (λ _. g refl))
+  on_answer_meets Yes a' c p s h g (inr e) =
+      subst (λ x. Meets (take_call Yes c p s) (take_call x c (longer z b p) (L s))) (sym e)
+      (call_if_meets (nat_lt (s.so_far).calls (s.limits).calls) true c p s h (λ _. g refl))
   on_answer_meets No a' c p s h g (inl e) = cc
-  on_answer_meets No a' c p s h g (inr e) = subst (λ x. Meets (take_call No c p s) (take_call x c (longer z b p) (L s))) (sym e) (unlisted_meets (needs_list c.definition) c p s h)
+  on_answer_meets No a' c p s h g (inr e) =
+      subst (λ x. Meets (take_call No c p s) (take_call x c (longer z b p) (L s))) (sym e)
+      (unlisted_meets (needs_list c.definition) c p s h)
 
   yes_text : (o : Option Def) (q c : Delimiters) (p : Pending) → paren_from o q c p ≡ Yes → 0 < length (text_of p)
   yes_text (Some d) q c p e = cc
@@ -161,7 +187,8 @@ module _ (z : List ℕ) (b : Bool) where
       go false [] e = cc
       go v (b ∷ x) e = omega arith
 
-  on_name_meets : (o : Option Def) (x : List ℕ) (p : Pending) (s : Expansion) → p.may_follow ≡ true → Meets (take_name o x p s) (take_name o x (longer z b p) (L s))
+  on_name_meets : (o : Option Def) (x : List ℕ) (p : Pending) (s : Expansion) → p.may_follow ≡ true
+      → Meets (take_name o x p s) (take_name o x (longer z b p) (L s))
   on_name_meets None x p s h = (refl, h)
   on_name_meets (Some d) x p s h =
       on_answer_meets (paren_at ((s.so_far).state).quotes ((s.so_far).state).comments p) _ (call_of d x (place_at s.pending)) p s h
@@ -231,7 +258,8 @@ module _ (z : List ℕ) (b : Bool) where
   not_done InString e = cc
   not_done InComment e = cc
 
-  on_seen_meets : (v w : Front) (s : Expansion) → NotEnd v → (s.pending).may_follow ≡ true → SeenPartial (s.pending).may_follow v → SeenStays v w → Meets (take_front v s) (take_front w (L s))
+  on_seen_meets : (v w : Front) (s : Expansion) → NotEnd v → (s.pending).may_follow ≡ true
+      → SeenPartial (s.pending).may_follow v → SeenStays v w → Meets (take_front v s) (take_front w (L s))
   unfolding NotEnd SeenPartial SeenStays longer_seen
   on_seen_meets (Taken t p) w s n h k (inl e) = cc
   on_seen_meets (Taken t p) w s n h k (inr e) = subst (λ x. Meets (take_token t p s) (take_front x (L s))) (sym e) (on_token_meets t p s n (k ∙ h))

@@ -2,7 +2,7 @@
 use Rattle.std.proofs.Common.{◌≡◌, ⊎_elim, inl, inr, ℕ, ◌+◌, ◌-◌, ◌≤◌, Bool, true, false, List, [], ◌∷◌, ◌++◌, Some, None}
 use Rattle.std.proofs.Common.{append-nil, refl, sym, ap, ◌∙◌, subst, take, drop, length, length-append, arith}
 use Rattle.std.proofs.lemmas.List.{take-append-le, drop-append-le, length-drop}
-use Rattle.m4_state.specs.State.{State, top_of, appended}
+use Rattle.m4_state.specs.State.{State, top_of}
 use Rattle.m4_state.specs.declared.delimiters.Delimiters.{Delimiters}
 use Rattle.m4_input.specs.declared.token.Token.{Token}
 use Rattle.m4_input.specs.declared.token.Token.TheVariants.{Name, Str, Comment, Byte, End}
@@ -71,8 +71,11 @@ one_plain_on s more n x z (inr g) =
 
 are_plain_on : (s : State) (more : Bool) (lens : List ℕ) (x z : List ℕ) → ArePlain s true lens x → ArePlain s more lens (x ++ z)
 are_plain_on s more [] x z h = tt
-are_plain_on s more (n ∷ lens) x z h =
-    (one_plain_on s more n x z h.0, subst (ArePlain s more lens) (sym (drop-append-le n x z (plain_fits s n x h.0))) (are_plain_on s more lens (drop n x) z h.1))
+are_plain_on s more (n ∷ lens) x z h = (
+  one_plain_on s more n x z h.0,
+  subst (ArePlain s more lens) (sym (drop-append-le n x z (plain_fits s n x h.0)))
+      (are_plain_on s more lens (drop n x) z h.1),
+)
 
 pub plain_run_on : (s : State) (m more : Bool) (n : ℕ) (x z : List ℕ) → MayFollow m z more → IsPlainRun s m n x → IsPlainRun s more n (x ++ z)
 plain_run_on s true more n x z f h = (h.0, are_plain_on s more h.0 x z h.1, h.2)
@@ -88,8 +91,11 @@ token_on s more n c d x z (inr g) = inr (g.0, found_on s.quotes s.comments more 
 
 tokens_on : (s : State) (more : Bool) (ts : List (ℕ × Call)) (c d : Call) (x z : List ℕ) → AreListTokens s true ts c d x → AreListTokens s more ts c d (x ++ z)
 tokens_on s more [] c d x z h = h
-tokens_on s more (t ∷ ts) c d x z h =
-    (token_on s more t.0 c t.1 x z h.0, subst (AreListTokens s more ts t.1 d) (sym (drop-append-le t.0 x z (token_fits s t.0 c t.1 x h.0))) (tokens_on s more ts t.1 d (drop t.0 x) z h.1))
+tokens_on s more (t ∷ ts) c d x z h = (
+  token_on s more t.0 c t.1 x z h.0,
+  subst (AreListTokens s more ts t.1 d) (sym (drop-append-le t.0 x z (token_fits s t.0 c t.1 x h.0)))
+      (tokens_on s more ts t.1 d (drop t.0 x) z h.1),
+)
 
 pub list_run_on : (s : State) (m more : Bool) (n : ℕ) (c d : Call) (x z : List ℕ) → MayFollow m z more → IsListRun s m n c d x → IsListRun s more n c d (x ++ z)
 list_run_on s true more n c d x z f h = (h.0, tokens_on s more h.0 c d x z h.1, h.2)
@@ -162,13 +168,15 @@ plain_front s p m n x h r =
     let a = after p x m h in
     subst (λ (y : List ℕ). IsPlainRun s p.may_follow n y) (sym a.all) (plain_run_on s m p.may_follow n x a.rest a.follows r)
 
-pub list_front : (s : State) (p : Pending) (m : Bool) (n : ℕ) (c d : Call) (x : List ℕ) → IsInFront p x m → IsListRun s m n c d x → IsListRun s p.may_follow n c d (text_of p)
+pub list_front : (s : State) (p : Pending) (m : Bool) (n : ℕ) (c d : Call) (x : List ℕ) → IsInFront p x m
+    → IsListRun s m n c d x → IsListRun s p.may_follow n c d (text_of p)
 list_front s p m n c d x h r =
     let a = after p x m h in
     subst (λ (y : List ℕ). IsListRun s p.may_follow n c d y) (sym a.all) (list_run_on s m p.may_follow n c d x a.rest a.follows r)
 
 -- a token that is found after the first bytes of the front
-pub text_after : (s : State) (p : Pending) (m : Bool) (n : ℕ) (x t : List ℕ) (l : ℕ) → IsInFront p x m → n ≤ length x → IsText s m l t (drop n x) → IsText s p.may_follow l t (drop n (text_of p))
+pub text_after : (s : State) (p : Pending) (m : Bool) (n : ℕ) (x t : List ℕ) (l : ℕ) → IsInFront p x m → n ≤ length x
+    → IsText s m l t (drop n x) → IsText s p.may_follow l t (drop n (text_of p))
 text_after s p m n x t l h k g =
     let a = after p x m h in
     let rest : drop n (text_of p) ≡ drop n x ++ a.rest = ap (drop n) a.all ∙ drop-append-le n x a.rest k in
@@ -179,7 +187,8 @@ text_after s p m n x t l h k g =
     by false z f g = closed_on (λ b (y : List ℕ). IsText s b l t y) (drop n x) z p.may_follow f g
 
 -- a part of the front
-pub part_in_front : (p : Pending) (m : Bool) (begin end : ℕ) (x : List ℕ) → IsInFront p x m → begin ≤ end → end ≤ length x → take (end - begin) (drop begin (text_of p)) ≡ take (end - begin) (drop begin x)
+pub part_in_front : (p : Pending) (m : Bool) (begin end : ℕ) (x : List ℕ) → IsInFront p x m → begin ≤ end
+    → end ≤ length x → take (end - begin) (drop begin (text_of p)) ≡ take (end - begin) (drop begin x)
 part_in_front p m begin end x h b e =
     let a = after p x m h in
     ap (λ (y : List ℕ). take (end - begin) (drop begin y)) a.all ∙ part_on begin end x a.rest b e
@@ -225,20 +234,6 @@ ahead_front a c s p true n x h all k u g =
   where
     no : true ≡ false → ⊥
     no e = cc
-
--- text that is put changes no name and no delimiter
-pub ahead_kept : (a : Lookahead) (c : Call) (s : State) (t : List ℕ) (m : Bool) (x : List ℕ) → IsAhead a c s m x → IsAhead a c (appended s t) m x
-ahead_kept aheads.Definition c s t m x h = h
-ahead_kept (aheads.Text begin end n) c s t m x h = h
-ahead_kept (aheads.Byte b) c s t m x h = h
-ahead_kept (aheads.Expansion n) c s t m x h = (record { scanned = (h.0).scanned; within = (h.0).within; list = (h.0).list }, h.1)
-ahead_kept (aheads.LineSkip n) c s t m x h = (record { scanned = (h.0).scanned; within = (h.0).within; list = (h.0).list }, h.1)
-ahead_kept (aheads.Call n) c s t m x h = (record { scanned = (h.0).scanned; within = (h.0).within; list = (h.0).list }, h.1)
-ahead_kept (aheads.List n) c s t m x h = (record { scanned = (h.0).scanned; within = (h.0).within; list = (h.0).list }, h.1)
-ahead_kept aheads.End c s t m x h = h
-ahead_kept (aheads.Unended what) c s t m x h = h
-ahead_kept aheads.Undecided c s t m x h = h
-ahead_kept aheads.Further c s t m x h = h
 
 -- what is left is less, if some bytes were passed
 pub front_less : (p : Pending) (m : Bool) (n : ℕ) (x : List ℕ) → IsInFront p x m → 0 < n → n ≤ length x → length (text_of (consumed n p)) < length (text_of p)

@@ -46,19 +46,22 @@ module _ (o m : List ℕ) (limits : Limits) where
   sources_after ss q =
       ap (after_sources limits ss) (sym (B_is q))
       ∙ same (after_sources limits ss (B q)) (after_sources limits ss q)
-      (sources_follow o m 0 limits.calls limits.calls limits.nesting limits.nesting room (λ k h. h) (λ h. ⊥) (inr (refl, refl)) (inr refl) (λ h x. absurd x) ss (B q) q (inr refl))
+      (sources_follow o m 0 limits.calls limits.calls limits.nesting limits.nesting room (λ k h. h) (λ h. ⊥)
+      (inr (refl, refl)) (inr refl) (λ h x. absurd x) ss (B q) q (inr refl))
 
   pub round_after : (saved : List (List ℕ)) (q : Progress) → read_saved limits saved (after o m q) ≡ after o m (read_saved limits saved q)
   round_after saved q =
       ap (read_saved limits saved) (sym (B_is q))
       ∙ same (read_saved limits saved (B q)) (read_saved limits saved q)
-      (round_follows o m 0 limits.calls limits.calls limits.nesting limits.nesting room (λ k h. h) (λ h. ⊥) (inr (refl, refl)) (inr refl) (λ h x. absurd x) saved q)
+      (round_follows o m 0 limits.calls limits.calls limits.nesting limits.nesting room (λ k h. h) (λ h. ⊥)
+      (inr (refl, refl)) (inr refl) (λ h x. absurd x) saved q)
 
   pub wraps_after : (q : Progress) → after_wraps limits (after o m q) ≡ after o m (after_wraps limits q)
   wraps_after q =
       ap (after_wraps limits) (sym (B_is q))
       ∙ same (after_wraps limits (B q)) (after_wraps limits q)
-      (rounds_after o m 0 limits.calls limits.calls limits.nesting limits.nesting room (λ k h. h) (λ h. ⊥) (inr (refl, refl)) (inr refl) (λ h x. absurd x) (suc limits.calls) (B q) q (inr refl))
+      (rounds_after o m 0 limits.calls limits.calls limits.nesting limits.nesting room (λ k h. h) (λ h. ⊥)
+      (inr (refl, refl)) (inr refl) (λ h x. absurd x) (suc limits.calls) (B q) q (inr refl))
 
 -- what was written of a progress
 pub written_after : (o m : List ℕ) (p q : Progress) → q ≡ written p → after o m p ≡ after (o ++ (p.so_far).output) (m ++ (p.so_far).messages) q
@@ -81,7 +84,9 @@ pub over_after_it : (s' : SessionState) (p : Progress) (cause : Cause) → progr
 over_after_it s' p cause e f = ap (λ (q : Progress). q.over) (sym e) ∙ ap how_over f
 
 -- a step from where o and m were written, within the whole
-module _ (o m : List ℕ) (p whole : Progress) (t : Within o m p whole) (s0 s s' : SessionState) (out0 out out' reported0 reported reported' : Option (List ℕ)) (a : out ≡ with_bytes out0 o) (b : reported ≡ with_bytes reported0 m) (l0 : IsOpen s0) (l : s.limits ≡ s0.limits) where
+module _ (o m : List ℕ) (p whole : Progress) (t : Within o m p whole) (s0 s s' : SessionState)
+    (out0 out out' reported0 reported reported' : Option (List ℕ)) (a : out ≡ with_bytes out0 o)
+    (b : reported ≡ with_bytes reported0 m) (l0 : IsOpen s0) (l : s.limits ≡ s0.limits) where
   -- it broke off
   broke : (cause : Cause) → BrokeOff s' p (writers out out' reported reported') cause → BrokeOff s' whole (writers out0 out' reported0 reported') cause
   broke cause f = record {
@@ -91,9 +96,11 @@ module _ (o m : List ℕ) (p whole : Progress) (t : Within o m p whole) (s0 s s'
   }
 
   -- it ended the run
-  ended : (cause : Cause) → Completed s s' p (writers out out' reported reported') → s'.over ≡ Some cause → Completed s0 s' whole (writers out0 out' reported0 reported')
+  ended : (cause : Cause) → Completed s s' p (writers out out' reported reported') → s'.over ≡ Some cause
+      → Completed s0 s' whole (writers out0 out' reported0 reported')
   ended cause f v =
-      subst (λ (q : Progress). Completed s0 s' q (writers out0 out' reported0 reported')) (sym (t.over (Ends cause) (over_after_it s' p cause f.progress v))) (record {
+      subst (λ (q : Progress). Completed s0 s' q (writers out0 out' reported0 reported'))
+      (sym (t.over (Ends cause) (over_after_it s' p cause f.progress v))) (record {
         live = l0;
         limits = f.limits ∙ l;
         unfinished = f.unfinished;
@@ -118,7 +125,9 @@ module _ (o m : List ℕ) (p whole : Progress) (t : Within o m p whole) (s0 s s'
   step_stops (stops.Ended (causes.Frozen x)) h = h
 
 -- all was made
-pub all_made : (o m : List ℕ) (s0 s : SessionState) (w : Contents) (whole : Progress) → IsOpen s0 → IsOpen s → s.limits ≡ s0.limits → w.out_new ≡ with_bytes w.out_old o → w.messages_new ≡ with_bytes w.messages_old m → after o m (progress_of s) ≡ whole → GoesTo whole s0 s w (Ok tt)
+pub all_made : (o m : List ℕ) (s0 s : SessionState) (w : Contents) (whole : Progress) → IsOpen s0 → IsOpen s
+    → s.limits ≡ s0.limits → w.out_new ≡ with_bytes w.out_old o → w.messages_new ≡ with_bytes w.messages_old m
+    → after o m (progress_of s) ≡ whole → GoesTo whole s0 s w (Ok tt)
 all_made o m s0 s w whole l0 l limits a b e = (
   subst (λ (p : Progress). Completed s0 s p w) e (record {
     live = l0;

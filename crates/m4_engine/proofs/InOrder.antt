@@ -173,7 +173,8 @@ unfolding ValidMode
 begun_valid Outside h = tt
 begun_valid (Collecting c) h = h
 
-called_valid : (c : Call) (t : Expansion) (k : Kept) → ValidCall c → IsState (t.so_far).state → ValidToken (t.pending).definition → ValidMode k.mode → ValidOut (called c t k)
+called_valid : (c : Call) (t : Expansion) (k : Kept) → ValidCall c → IsState (t.so_far).state
+    → ValidToken (t.pending).definition → ValidMode k.mode → ValidOut (called c t k)
 called_valid c t k v h g m =
     effected_valid ((acted_at c t).effect).exit ((acted_at c t).effect).skip ((acted_at c t).effect).push (after_call c t k)
     (act_pushes c.definition c.name c.done c.place (t.so_far).state h v.1)
@@ -189,17 +190,20 @@ unfolding ValidTurn ValidMode
 collect_valid true c p s v g h = (h.2, (h.0, none_valid, v))
 collect_valid false c p s v g h = bare_valid (called c (reading p s) (kept_of s)) (called_valid c (reading p s) (kept_of s) v h.0 g h.2)
 
-deep_valid : (deep listed : Bool) (c : Call) (p : Pending) (s : Expansion) → ValidCall c → ValidToken p.definition → Valid s → ValidTurn (call_unless_deep deep listed c p s)
+deep_valid : (deep listed : Bool) (c : Call) (p : Pending) (s : Expansion) → ValidCall c → ValidToken p.definition
+    → Valid s → ValidTurn (call_unless_deep deep listed c p s)
 unfolding ValidTurn
 deep_valid true listed c p s v g h = h.0
 deep_valid false listed c p s v g h = collect_valid listed c p s v g h
 
-room_valid : (room listed : Bool) (c : Call) (p : Pending) (s : Expansion) → ValidCall c → ValidToken p.definition → Valid s → ValidTurn (call_if_room room listed c p s)
+room_valid : (room listed : Bool) (c : Call) (p : Pending) (s : Expansion) → ValidCall c → ValidToken p.definition
+    → Valid s → ValidTurn (call_if_room room listed c p s)
 unfolding ValidTurn
 room_valid true listed c p s v g h = deep_valid (is_deep s) listed c p (with_call s) v g h
 room_valid false listed c p s v g h = h.0
 
-without_list_valid : (b : Bool) (c : Call) (p : Pending) (s : Expansion) → ValidCall c → ValidToken p.definition → Valid s → ValidTurn (call_without_list b c p s)
+without_list_valid : (b : Bool) (c : Call) (p : Pending) (s : Expansion) → ValidCall c → ValidToken p.definition
+    → Valid s → ValidTurn (call_without_list b c p s)
 unfolding ValidTurn
 without_list_valid true c p s v g h = put_valid c.name (reading p s) (h.0, g, h.2)
 without_list_valid false c p s v g h = room_valid (nat_lt (s.so_far).calls (s.limits).calls) false c p s v g h
@@ -210,10 +214,13 @@ take_call_valid Unknown c p s v g h = h.0
 take_call_valid Yes c p s v g h = room_valid (nat_lt (s.so_far).calls (s.limits).calls) true c p s v g h
 take_call_valid No c p s v g h = without_list_valid (needs_list c.definition) c p s v g h
 
-take_name_valid : (o : Option Def) (x : List ℕ) (p : Pending) (s : Expansion) → ((d : Def) → o ≡ Some d → IsDefinition d) → ValidToken p.definition → Valid s → ValidTurn (take_name o x p s)
+take_name_valid : (o : Option Def) (x : List ℕ) (p : Pending) (s : Expansion)
+    → ((d : Def) → o ≡ Some d → IsDefinition d) → ValidToken p.definition → Valid s → ValidTurn (take_name o x p s)
 unfolding ValidTurn
 take_name_valid None x p s v g h = put_valid x (reading p s) (h.0, g, h.2)
-take_name_valid (Some d) x p s v g h = take_call_valid (paren_at ((s.so_far).state).quotes ((s.so_far).state).comments p) (call_of d x (place_at s.pending)) p s (v d refl, tt, tt) g h
+take_name_valid (Some d) x p s v g h = take_call_valid
+    (paren_at ((s.so_far).state).quotes ((s.so_far).state).comments p) (call_of d x (place_at s.pending)) p s
+    (v d refl, tt, tt) g h
 
 -- ---- a turn
 
@@ -267,7 +274,9 @@ take_front_valid (Refused u n) s f h = h.0
 take_front_valid More s f h = h.0
 
 turn_valid : (s : Expansion) (v : Turn Expansion Kept Ended) → turn s ≡ v → Valid s → ValidTurn v
-turn_valid s v e h = subst ValidTurn e (take_front_valid (token_at ((s.so_far).state).quotes ((s.so_far).state).comments s.pending) s (front_valid (s.pending).definition ((s.so_far).state).quotes ((s.so_far).state).comments s.pending h.1) h)
+turn_valid s v e h = subst ValidTurn e (take_front_valid
+    (token_at ((s.so_far).state).quotes ((s.so_far).state).comments s.pending) s
+    (front_valid (s.pending).definition ((s.so_far).state).quotes ((s.so_far).state).comments s.pending h.1) h)
 
 join_valid : (m : Mode) (k : Kept) (t : Expansion) (v : Outcome Expansion Ended) → join_by m k t ≡ v → ValidMode m → ValidMode k.mode → Valid t → ValidOut v
 unfolding ValidOut ValidMode
@@ -299,7 +308,9 @@ rules = record {
 
 input_valid : (limits : Limits) (r : RunSoFar) (p : Pending) → IsState r.state → p.definition ≡ None → IsState ((expand_input limits r p).so_far).state
 unfolding ValidOut ValidMode
-input_valid limits r p h e = go (expand (expansion_of limits r p)) (holds Expansion Kept Ended turn join out_of_bound_at size_of calls_left falls Post rules (expansion_of limits r p) (h, subst ValidToken (sym e) none_valid, tt))
+input_valid limits r p h e = go (expand (expansion_of limits r p))
+    (holds Expansion Kept Ended turn join out_of_bound_at size_of calls_left falls Post rules (expansion_of limits r p)
+    (h, subst ValidToken (sym e) none_valid, tt))
   where
     go : (o : Outcome Expansion Ended) → ValidOut o → IsState ((ended_of o).so_far).state
     go (Halted d) v = v
@@ -307,7 +318,8 @@ input_valid limits r p h e = go (expand (expansion_of limits r p)) (holds Expans
 
 -- ---- a run
 
-unless_valid : (o : Option EndReason) (old new : Progress) → IsState (old.so_far).state → IsState (new.so_far).state → IsState ((unless_over o old new).so_far).state
+unless_valid : (o : Option EndReason) (old new : Progress) → IsState (old.so_far).state → IsState (new.so_far).state
+    → IsState ((unless_over o old new).so_far).state
 unless_valid None old new h g = g
 unless_valid (Some x) old new h g = h
 
@@ -317,12 +329,18 @@ read_valid limits (Unopened name) r any_missing h = h
 
 pub sources_valid : (limits : Limits) (ss : List Source) (p : Progress) → IsState (p.so_far).state → IsState ((after_sources limits ss p).so_far).state
 sources_valid limits [] p h = h
-sources_valid limits (s ∷ ss) p h = sources_valid limits ss (after_source limits s p) (unless_valid p.over p (read_source limits s p.so_far p.any_missing) h (read_valid limits s p.so_far p.any_missing h))
+sources_valid limits (s ∷ ss) p h = sources_valid limits ss (after_source limits s p)
+    (unless_valid p.over p (read_source limits s p.so_far p.any_missing) h (read_valid limits s p.so_far p.any_missing h))
 
-next_valid : (go : Progress → Progress) (limits : Limits) → ((q : Progress) → IsState (q.so_far).state → IsState ((go q).so_far).state) → (v : Option EndReason) (saved : List (List ℕ)) (p : Progress) → IsState (p.so_far).state → IsState ((next_round go limits v saved p).so_far).state
+next_valid : (go : Progress → Progress) (limits : Limits)
+    → ((q : Progress) → IsState (q.so_far).state → IsState ((go q).so_far).state)
+    → (v : Option EndReason) (saved : List (List ℕ)) (p : Progress) → IsState (p.so_far).state
+    → IsState ((next_round go limits v saved p).so_far).state
 next_valid go limits g (Some x) saved p h = h
 next_valid go limits g None [] p h = h
-next_valid go limits g None (x ∷ xs) p h = g (read_saved limits (x ∷ xs) p) (input_valid limits (record p.so_far { saved = [] }) (wrapped_pending (joined_back (x ∷ xs))) h refl)
+next_valid go limits g None (x ∷ xs) p h =
+    g (read_saved limits (x ∷ xs) p)
+    (input_valid limits (record p.so_far { saved = [] }) (wrapped_pending (joined_back (x ∷ xs))) h refl)
 
 rounds_valid : (n : ℕ) (limits : Limits) (p : Progress) → IsState (p.so_far).state → IsState ((rounds n limits p).so_far).state
 rounds_valid zero limits p h = h
@@ -364,11 +382,14 @@ one_fits (Text x y) bytes h = tt
 one_fits (NamedBuiltin x y) bytes h = tt
 one_fits (Diversion n x) bytes h = (h.fits).0
 
-directives_valid : (ds : List Directive) (may_lack : Bool) (bytes : List ℕ) (s : State) → SpellsAll may_lack ds bytes → IsState s → IsState (fold with_directive s ds)
+directives_valid : (ds : List Directive) (may_lack : Bool) (bytes : List ℕ) (s : State) → SpellsAll may_lack ds bytes
+    → IsState s → IsState (fold with_directive s ds)
 directives_valid [] may_lack bytes s g h = h
 directives_valid (d ∷ ds) may_lack bytes s g h = directives_valid ds may_lack g.2 (with_directive s d) g.5 (directive_valid s d h (one_fits d g.1 g.4))
 
 pub start_valid : (prefix : Bool) (frozen : Option Script) (start : Start) → IsStart prefix frozen start → IsState ((begun start).so_far).state
 start_valid prefix None start e = subst (λ (x : Start). IsState ((begun x).so_far).state) (sym e) (IsState-fresh prefix)
-start_valid prefix (Some file) start (inl h) = subst (λ (x : Start). IsState ((begun x).so_far).state) (sym h.3) (directives_valid h.0 true (h.2).rest empty (h.2).others IsState-empty)
+start_valid prefix (Some file) start (inl h) =
+    subst (λ (x : Start). IsState ((begun x).so_far).state) (sym h.3)
+    (directives_valid h.0 true (h.2).rest empty (h.2).others IsState-empty)
 start_valid prefix (Some file) start (inr h) = subst (λ (x : Start). IsState ((begun x).so_far).state) (sym h.2) IsState-empty

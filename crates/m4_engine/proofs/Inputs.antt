@@ -16,12 +16,14 @@ pushed_same : (z : List ℕ) (more : Bool) (v : Pushed) (p : Pending) → with_p
 pushed_same z more (pushes.Text x) p = refl
 pushed_same z more (pushes.Definition d) p = refl
 
-value_keeps : (v : Pushed) (old : Held) → IsReady old → (old.pending).definition ≡ None → IsPushed (Some v) → Stays old (record old { pending = with_pushed v old.pending })
+value_keeps : (v : Pushed) (old : Held) → IsReady old → (old.pending).definition ≡ None → IsPushed (Some v)
+    → Stays old (record old { pending = with_pushed v old.pending })
 value_keeps (pushes.Text x) old r n i = record { ready = record { sound = r.sound; front = r.front }; follows = refl; file = refl }
 value_keeps (pushes.Definition d) old r n i = record { ready = record { sound = r.sound; front = i }; follows = refl; file = refl }
 
 -- a value is pushed
-pub pushed : (old new : Held) (v : Pushed) → IsReady old → (old.pending).definition ≡ None → IsPushed (Some v) → new ≡ record old { pending = with_pushed v old.pending } → Pushes old.pending new.pending (Some v) × Stays old new
+pub pushed : (old new : Held) (v : Pushed) → IsReady old → (old.pending).definition ≡ None → IsPushed (Some v)
+    → new ≡ record old { pending = with_pushed v old.pending } → Pushes old.pending new.pending (Some v) × Stays old new
 pushed old new v r n i e = (
   (λ z more. pushed_same z more v old.pending ∙ sym (ap (λ (h : Held). longer z more h.pending) e)),
   subst (Stays old) (sym e) (value_keeps v old r n i),

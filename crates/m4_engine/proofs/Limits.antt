@@ -23,9 +23,12 @@ complete_moved p q e c = subst (λ (x : Progress). Complete x) e c
 
 -- what was made before is nothing
 nothing_before : (p : Progress) → record { so_far = after_record [] [] 0 p.so_far; over = p.over; any_missing = p.any_missing } ≡ p
-nothing_before p = ap (λ (n : ℕ). let q : Progress = record { so_far = record p.so_far { calls = n }; over = p.over; any_missing = p.any_missing } in q) (let h : 0 + (p.so_far).calls ≡ (p.so_far).calls = omega arith in h)
+nothing_before p = ap (λ (n : ℕ). let q : Progress =
+    record { so_far = record p.so_far { calls = n }; over = p.over; any_missing = p.any_missing } in q)
+    (let h : 0 + (p.so_far).calls ≡ (p.so_far).calls = omega arith in h)
 
-pub over_how : (v : Option EndReason) (h : EndReason) (freezes : Bool) (saved : List (List ℕ)) (r : RunSoFar) (any_missing : Bool) → v ≡ Some h → (result_by v freezes saved r any_missing).reason ≡ h
+pub over_how : (v : Option EndReason) (h : EndReason) (freezes : Bool) (saved : List (List ℕ)) (r : RunSoFar)
+    (any_missing : Bool) → v ≡ Some h → (result_by v freezes saved r any_missing).reason ≡ h
 over_how None h freezes saved r any_missing e = cc
 over_how (Some x) h freezes saved r any_missing e = cc
 
@@ -51,9 +54,12 @@ module _ (calls calls' nesting nesting' : ℕ) (room : (k : ℕ) → 0 + k < cal
   start_beside : (start : Start) → Beside (begun start) (begun start)
   start_beside start = inr (sym (nothing_before (begun start)))
 
-  sources_same : (start : Start) (sources : List Source) → ((h : EndReason) × ((after_sources small sources (begun start)).over ≡ Some h) × Limit h) ⊎ (after_sources small sources (begun start) ≡ after_sources large sources (begun start))
+  sources_same : (start : Start) (sources : List Source)
+      → ((h : EndReason) × ((after_sources small sources (begun start)).over ≡ Some h) × Limit h)
+      ⊎ (after_sources small sources (begun start) ≡ after_sources large sources (begun start))
   sources_same start sources =
-      beside_same _ _ (sources_follow [] [] 0 calls calls' nesting nesting' room depth Limit at_calls at_nesting ends sources (begun start) (begun start) (start_beside start))
+      beside_same _ _ (sources_follow [] [] 0 calls calls' nesting nesting' room depth Limit at_calls at_nesting ends
+      sources (begun start) (begun start) (start_beside start))
 
   wraps_grow : (p q : Progress) → q ≡ rounds (suc calls) large p → Complete q → q ≡ after_wraps large p
   wraps_grow p q e done = e ∙ sym (more_rounds (suc calls) (suc calls') large p (omega arith) (complete_moved q (rounds (suc calls) large p) e done))
@@ -62,7 +68,9 @@ module _ (calls calls' nesting nesting' : ℕ) (room : (k : ℕ) → 0 + k < cal
   wraps_same p =
       ⊎_elim (λ h. inl h)
       (λ e. inr (wraps_grow p (after_wraps small p) e (wraps_complete small p)))
-      (beside_same (after_wraps small p) (rounds (suc calls) large p) (rounds_after [] [] 0 calls calls' nesting nesting' room depth Limit at_calls at_nesting ends (suc calls) p p (inr (sym (nothing_before p)))))
+      (beside_same (after_wraps small p) (rounds (suc calls) large p)
+      (rounds_after [] [] 0 calls calls' nesting nesting' room depth Limit at_calls at_nesting ends (suc calls) p p
+      (inr (sym (nothing_before p)))))
 
   finish_same : (freezes : Bool) (sources : List Source) (p q : Progress)
       → ((h : EndReason) → Limit h → (result_of freezes (saved_after sources p) (after_wraps small p)).reason ≢ h)
@@ -70,11 +78,13 @@ module _ (calls calls' nesting nesting' : ℕ) (room : (k : ℕ) → 0 + k < cal
       → result_of freezes (saved_after sources q) (after_wraps large q)
       ≡ result_of freezes (saved_after sources p) (after_wraps small p)
   finish_same freezes sources p q n (inl h) =
-      absurd (n h.0 h.2 (ap (λ (x : Progress). (result_of freezes (saved_after sources p) x).reason) (over_wraps small p h.0 h.1) ∙ over_how p.over h.0 freezes (saved_after sources p) p.so_far p.any_missing h.1))
+      absurd (n h.0 h.2 (ap (λ (x : Progress). (result_of freezes (saved_after sources p) x).reason)
+      (over_wraps small p h.0 h.1) ∙ over_how p.over h.0 freezes (saved_after sources p) p.so_far p.any_missing h.1))
   finish_same freezes sources p q n (inr e) =
       ap (λ (x : Progress). result_of freezes (saved_after sources x) (after_wraps large x)) (sym e)
       ∙ ⊎_elim
-      (λ h. absurd (n h.0 h.2 (over_how (after_wraps small p).over h.0 freezes (saved_after sources p) (after_wraps small p).so_far (after_wraps small p).any_missing h.1)))
+      (λ h. absurd (n h.0 h.2 (over_how (after_wraps small p).over h.0 freezes (saved_after sources p)
+      (after_wraps small p).so_far (after_wraps small p).any_missing h.1)))
       (λ f. ap (result_of freezes (saved_after sources p)) (sym f))
       (wraps_same p)
 
@@ -131,12 +141,19 @@ as_deep n m (inr h) k f =
     let most : n ≤ m = h.1 in
     not_both (both_true _ _ (lt_true 0 n h.0) (lt_true n k (omega arith))) f)
 
-pub larger_nesting : (o : Options) (nesting : ℕ) (start : Start) (sources : List Source) → IsAsDeep o.nesting nesting → (run_from o start sources).reason ≢ Ends causes.NestingLimit → run_from (record o { nesting = nesting }) start sources ≡ run_from o start sources
+pub larger_nesting : (o : Options) (nesting : ℕ) (start : Start) (sources : List Source) → IsAsDeep o.nesting nesting
+    → (run_from o start sources).reason ≢ Ends causes.NestingLimit
+    → run_from (record o { nesting = nesting }) start sources ≡ run_from o start sources
 larger_nesting o nesting start sources deep n =
-    runs_same o.calls o.calls o.nesting nesting (λ k h. omega arith) (as_deep o.nesting nesting deep) (Is (Ends causes.NestingLimit)) (inr (refl, refl)) (inl (is_same _)) (ends_at (Ends causes.NestingLimit) refl) (omega arith) o.freeze start sources
+    runs_same o.calls o.calls o.nesting nesting (λ k h. omega arith) (as_deep o.nesting nesting deep)
+    (Is (Ends causes.NestingLimit)) (inr (refl, refl)) (inl (is_same _)) (ends_at (Ends causes.NestingLimit) refl)
+    (omega arith) o.freeze start sources
     (λ h l e. n (e ∙ is _ h l))
 
-pub larger_calls : (o : Options) (calls : ℕ) (start : Start) (sources : List Source) → o.calls ≤ calls → (run_from o start sources).reason ≢ Ends causes.ExpansionLimit → run_from (record o { calls = calls }) start sources ≡ run_from o start sources
+pub larger_calls : (o : Options) (calls : ℕ) (start : Start) (sources : List Source) → o.calls ≤ calls
+    → (run_from o start sources).reason ≢ Ends causes.ExpansionLimit
+    → run_from (record o { calls = calls }) start sources ≡ run_from o start sources
 larger_calls o calls start sources more n =
-    runs_same o.calls calls o.nesting o.nesting (λ k h. omega arith) (λ k e. e) (Is (Ends causes.ExpansionLimit)) (inl (is_same _)) (inr refl) (ends_at (Ends causes.ExpansionLimit) refl) more o.freeze start sources
+    runs_same o.calls calls o.nesting o.nesting (λ k h. omega arith) (λ k e. e) (Is (Ends causes.ExpansionLimit))
+    (inl (is_same _)) (inr refl) (ends_at (Ends causes.ExpansionLimit) refl) more o.freeze start sources
     (λ h l e. n (e ∙ is _ h l))

@@ -26,14 +26,17 @@ pub list_one : (s : State) (m : Bool) (n : ℕ) (c d : Call) (x : List ℕ) → 
 list_one s m n c d x h = let k : n + 0 ≡ n = omega arith in ((n, d) ∷ [], (h, refl), k)
 
 -- further tokens
-joined : (s : State) (m : Bool) (ts us : List (ℕ × Call)) (c d e : Call) (x : List ℕ) → AreListTokens s m ts c d x → AreListTokens s m us d e (drop (bytes_in ts) x) → AreListTokens s m (ts ++ us) c e x × (bytes_in (ts ++ us) ≡ bytes_in ts + bytes_in us)
+joined : (s : State) (m : Bool) (ts us : List (ℕ × Call)) (c d e : Call) (x : List ℕ) → AreListTokens s m ts c d x
+    → AreListTokens s m us d e (drop (bytes_in ts) x)
+    → AreListTokens s m (ts ++ us) c e x × (bytes_in (ts ++ us) ≡ bytes_in ts + bytes_in us)
 joined s m [] us c d e x a b = let k : bytes_in us ≡ 0 + bytes_in us = omega arith in (subst (λ (k : Call). AreListTokens s m us k e x) a b, k)
 joined s m (t ∷ ts) us c d e x a b =
     let r = joined s m ts us t.1 d e (drop t.0 x) a.1 (subst (AreListTokens s m us d e) (sym (drop-drop (bytes_in ts) t.0 x)) b) in
     let k : bytes_in (ts ++ us) ≡ bytes_in ts + bytes_in us = r.1 in
     ((a.0, r.0), omega arith)
 
-pub list_on : (s : State) (m : Bool) (k n : ℕ) (c d e : Call) (x y : List ℕ) → IsListRun s m k c d x → y ≡ drop k x → IsListRun s m n d e y → IsListRun s m (k + n) c e x
+pub list_on : (s : State) (m : Bool) (k n : ℕ) (c d e : Call) (x y : List ℕ) → IsListRun s m k c d x → y ≡ drop k x
+    → IsListRun s m n d e y → IsListRun s m (k + n) c e x
 list_on s m k n c d e x y r g h =
     let q = joined s m r.0 h.0 c d e x r.1 (subst (λ (b : ℕ). AreListTokens s m h.0 d e (drop b x)) (sym r.2) (subst (AreListTokens s m h.0 d e) g h.1)) in
     (r.0 ++ h.0, q.0, q.1 ∙ ap (λ (b : ℕ). b + bytes_in h.0) r.2 ∙ ap (λ (b : ℕ). k + b) h.2)
@@ -47,8 +50,16 @@ with_bytes x c = record c { begun = true; bytes = c.bytes ++ x }
 -- a text is added to the argument
 text_added : (x : List ℕ) (c : Call) (s : Expansion) → s.mode ≡ Collecting c → put_text x s ≡ record s { mode = Collecting (with_bytes x c) }
 text_added x c s h =
-    ap (λ (v : Mode). let e : Expansion = record s { so_far = record s.so_far { state = diverted_in v (s.so_far).state x; output = (s.so_far).output ++ issued_in v ((s.so_far).state).current x }; mode = mode_with_text x v } in e) h
-    ∙ ap (λ (o : List ℕ). let e : Expansion = record s { so_far = record s.so_far { output = o }; mode = Collecting (with_bytes x c) } in e) (append-nil (s.so_far).output)
+    ap (λ (v : Mode). let e : Expansion =
+    record s {
+      so_far = record s.so_far {
+        state = diverted_in v (s.so_far).state x;
+        output = (s.so_far).output ++ issued_in v ((s.so_far).state).current x;
+      };
+      mode = mode_with_text x v;
+    } in e) h
+    ∙ ap (λ (o : List ℕ). let e : Expansion =
+    record s { so_far = record s.so_far { output = o }; mode = Collecting (with_bytes x c) } in e) (append-nil (s.so_far).output)
 
 text_taken : (b : ℕ) (c : Call) → role_of b c ≡ Other → TakesByte b c (with_bytes (b ∷ []) c)
 text_taken b c r s h =
@@ -66,7 +77,8 @@ roles_kept : (r : Role) (q k : Delimiters) (z x : List ℕ) (c : Call) → c.beg
 roles_kept r q k z [] c g h = tt
 roles_kept r q k z (b ∷ x) c g h = (((h.0).0, role_kept b z c g ∙ (h.0).1), roles_kept r q k z x c g h.1)
 
-bytes_taken : (s : State) (m : Bool) (b : ℕ) (x y : List ℕ) (c : Call) → c.begun ≡ true → HaveRole Other c s.quotes s.comments (b ∷ x) → IsListRun s m (length (b ∷ x)) c (with_bytes (b ∷ x) c) ((b ∷ x) ++ y)
+bytes_taken : (s : State) (m : Bool) (b : ℕ) (x y : List ℕ) (c : Call) → c.begun ≡ true
+    → HaveRole Other c s.quotes s.comments (b ∷ x) → IsListRun s m (length (b ∷ x)) c (with_bytes (b ∷ x) c) ((b ∷ x) ++ y)
 bytes_taken s m b [] y c g h = list_one s m 1 c (with_bytes (b ∷ []) c) (b ∷ y) (inr (b, (h.0).0 m y, text_taken b c (h.0).1))
 bytes_taken s m b (a ∷ x) y c g h =
     let d : Call = with_bytes (b ∷ []) c in
@@ -84,7 +96,8 @@ none_added c g =
     ∙ ap (λ (v : Bool). let d : Call = record c { begun = v } in d) (sym g)
 
 -- the first n bytes of a text are added at once
-bytes_at_once : (s : State) (m : Bool) (n : ℕ) (x : List ℕ) (c d : Call) → c.begun ≡ true → n ≤ length x → HaveRole Other c s.quotes s.comments (take n x) → d ≡ with_bytes (take n x) c → IsListRun s m n c d x
+bytes_at_once : (s : State) (m : Bool) (n : ℕ) (x : List ℕ) (c d : Call) → c.begun ≡ true → n ≤ length x
+    → HaveRole Other c s.quotes s.comments (take n x) → d ≡ with_bytes (take n x) c → IsListRun s m n c d x
 bytes_at_once s m n x c d f w h g =
     let k : n ≡ length (take n x) = sym (length-take-le n x w) in
     let e : x ≡ take n x ++ drop n x = sym (take-append-drop n x) in
@@ -102,11 +115,14 @@ abbrev pub begun : Call → Call
 begun c = record c { begun = true }
 
 -- a byte that is text, and the bytes after it that are
-pub byte_and_texts : (s : State) (m : Bool) (b n : ℕ) (c d : Call) (x y : List ℕ) → scan s.quotes s.comments m x ≡ Found (Byte b) 1 → role_of b c ≡ Other → y ≡ drop 1 x → n ≤ length y → HaveRole Other (begun c) s.quotes s.comments (take n y) → d ≡ with_bytes (take (1 + n) x) c → IsListRun s m (1 + n) c d x
+pub byte_and_texts : (s : State) (m : Bool) (b n : ℕ) (c d : Call) (x y : List ℕ)
+    → scan s.quotes s.comments m x ≡ Found (Byte b) 1 → role_of b c ≡ Other → y ≡ drop 1 x → n ≤ length y
+    → HaveRole Other (begun c) s.quotes s.comments (take n y) → d ≡ with_bytes (take (1 + n) x) c → IsListRun s m (1 + n) c d x
 byte_and_texts s m b n c d x y h r g w t e =
     let e1 : Call = with_bytes (b ∷ []) c in
     let next : suc n ≡ 1 + n = omega arith in
-    let all : b ∷ take n y ≡ take (1 + n) x = ap (λ (z : List ℕ). b ∷ take n z) g ∙ ap (take (suc n)) (sym (byte_first s.quotes s.comments m x b 1 h)) ∙ ap (λ k. take k x) next in
+    let all : b ∷ take n y ≡ take (1 + n) x = ap (λ (z : List ℕ). b ∷ take n z) g
+    ∙ ap (take (suc n)) (sym (byte_first s.quotes s.comments m x b 1 h)) ∙ ap (λ k. take k x) next in
     let after : d ≡ with_bytes (take n y) e1 = e ∙ ap (λ (z : List ℕ). with_bytes z c) (sym all) ∙ sym (twice_added b (take n y) c) in
     list_on s m 1 n c e1 d x y (list_one s m 1 c e1 x (inr (b, h, text_taken b c r))) g
     (bytes_at_once s m n y e1 d refl w (roles_kept Other s.quotes s.comments (b ∷ []) (take n y) (begun c) refl t) after)
@@ -116,7 +132,8 @@ roles_on : (r : Role) (c : Call) (q k : Delimiters) (x : List ℕ) (b : ℕ) →
 roles_on r c q k [] b h l g = ((l, g), tt)
 roles_on r c q k (a ∷ x) b h l g = (h.0, roles_on r c q k x b h.1 l g)
 
-pub roles_more : (r : Role) (c : Call) (q k : Delimiters) (n : ℕ) (x : List ℕ) (b : ℕ) → HaveRole r c q k (take n x) → IsLone q k b → role_of b c ≡ r → take (n + 1) x ≡ take n x ++ b ∷ [] → HaveRole r c q k (take (n + 1) x)
+pub roles_more : (r : Role) (c : Call) (q k : Delimiters) (n : ℕ) (x : List ℕ) (b : ℕ) → HaveRole r c q k (take n x)
+    → IsLone q k b → role_of b c ≡ r → take (n + 1) x ≡ take n x ++ b ∷ [] → HaveRole r c q k (take (n + 1) x)
 roles_more r c q k n x b h l g e = subst (HaveRole r c q k) (sym e) (roles_on r c q k (take n x) b h l g)
 
 -- ---- bytes that are dropped
@@ -142,9 +159,12 @@ blanks_at_once s m n x c w h =
     (subst (λ (j : ℕ). IsListRun s m j c c (take n x ++ drop n x)) k (blanks_taken s m (take n x) (drop n x) c h))
 
 -- a byte, and the bytes after it that are dropped
-pub byte_and_blanks : (s : State) (m : Bool) (b n : ℕ) (c d : Call) (x y : List ℕ) → scan s.quotes s.comments m x ≡ Found (Byte b) 1 → TakesByte b c d → y ≡ drop 1 x → n ≤ length y → HaveRole Blank d s.quotes s.comments (take n y) → IsListRun s m (1 + n) c d x
+pub byte_and_blanks : (s : State) (m : Bool) (b n : ℕ) (c d : Call) (x y : List ℕ)
+    → scan s.quotes s.comments m x ≡ Found (Byte b) 1 → TakesByte b c d → y ≡ drop 1 x → n ≤ length y
+    → HaveRole Blank d s.quotes s.comments (take n y) → IsListRun s m (1 + n) c d x
 byte_and_blanks s m b n c d x y h t g w k = list_on s m 1 n c d d x y (list_one s m 1 c d x (inr (b, h, t))) g (blanks_at_once s m n y d w k)
 
 -- a byte alone
-pub byte_taken : (s : State) (m : Bool) (b : ℕ) (c d : Call) (x : List ℕ) → scan s.quotes s.comments m x ≡ Found (Byte b) 1 → TakesByte b c d → IsListRun s m 1 c d x
+pub byte_taken : (s : State) (m : Bool) (b : ℕ) (c d : Call) (x : List ℕ)
+    → scan s.quotes s.comments m x ≡ Found (Byte b) 1 → TakesByte b c d → IsListRun s m 1 c d x
 byte_taken s m b c d x h t = list_one s m 1 c d x (inr (b, h, t))

@@ -22,13 +22,16 @@ pub nothing_follows : (may : Bool) → MayFollow may [] may
 nothing_follows true = tt
 nothing_follows false = (refl, refl)
 
-scan_more : (may more : Bool) (q c : Delimiters) (x z : List ℕ) (v : Scan) → (v ≡ NeedsMore → ⊥) → scan q c may x ≡ v → MayFollow may z more → scan q c more (x ++ z) ≡ v
+scan_more : (may more : Bool) (q c : Delimiters) (x z : List ℕ) (v : Scan) → (v ≡ NeedsMore → ⊥) → scan q c may x ≡ v
+    → MayFollow may z more → scan q c more (x ++ z) ≡ v
 scan_more true more q c x z v n e m =
     ⊎_elim (λ (h : scan q c true x ≡ NeedsMore). absurd (n (sym e ∙ h))) (λ h. h ∙ e) (scan_stays q c more x z)
 scan_more false more q c x z v n e m =
     ap (λ b. scan q c b (x ++ z)) m.1 ∙ ap (λ (y : List ℕ). scan q c false (x ++ y)) m.0 ∙ ap (scan q c false) (append-nil x) ∙ e
 
-front_longer : (q c : Delimiters) (p : Pending) (v : Scan) (z : List ℕ) (more : Bool) → p.definition ≡ None → (v ≡ NeedsMore → ⊥) → scan q c p.may_follow (text_of p) ≡ v → MayFollow p.may_follow z more → token_at q c (longer z more p) ≡ front_by (longer z more p) v
+front_longer : (q c : Delimiters) (p : Pending) (v : Scan) (z : List ℕ) (more : Bool) → p.definition ≡ None
+    → (v ≡ NeedsMore → ⊥) → scan q c p.may_follow (text_of p) ≡ v → MayFollow p.may_follow z more
+    → token_at q c (longer z more p) ≡ front_by (longer z more p) v
 front_longer q c p v z more d n e m =
     ap (λ o. front_from o q c (longer z more p)) d
     ∙ ap (λ (x : List ℕ). front_by (longer z more p) (scan q c more x)) (text_longer z more p)
@@ -37,7 +40,9 @@ front_longer q c p v z more d n e m =
 pub closed_same : (p : Pending) → p.may_follow ≡ false → longer [] false p ≡ p
 closed_same p h = ap (λ (b : Bool). longer [] b p) (sym h) ∙ nothing_more p
 
-consumed_so : (may : Bool) (q c : Delimiters) (p : Pending) (t : Token) (n : ℕ) (z : List ℕ) (more : Bool) → p.may_follow ≡ may → scan q c may (text_of p) ≡ Found t n → MayFollow may z more → consumed n (longer z more p) ≡ longer z more (consumed n p)
+consumed_so : (may : Bool) (q c : Delimiters) (p : Pending) (t : Token) (n : ℕ) (z : List ℕ) (more : Bool)
+    → p.may_follow ≡ may → scan q c may (text_of p) ≡ Found t n → MayFollow may z more
+    → consumed n (longer z more p) ≡ longer z more (consumed n p)
 consumed_so true q c p t n z more h e m = consumed_longer z more n p (scan_fits q c (text_of p) t n e)
 consumed_so false q c p t n z more h e m =
     ap (λ (b : Bool). consumed n (longer z b p)) m.1
@@ -48,15 +53,20 @@ consumed_so false q c p t n z more h e m =
     ∙ sym (ap (λ (b : Bool). longer z b (consumed n p)) m.1)
 
 -- a token that is decided
-pub found_longer : (q c : Delimiters) (p : Pending) (t : Token) (n : ℕ) (z : List ℕ) (more : Bool) → p.definition ≡ None → scan q c p.may_follow (text_of p) ≡ Found t n → MayFollow p.may_follow z more → token_at q c (longer z more p) ≡ Taken t (longer z more (consumed n p))
+pub found_longer : (q c : Delimiters) (p : Pending) (t : Token) (n : ℕ) (z : List ℕ) (more : Bool) → p.definition ≡ None
+    → scan q c p.may_follow (text_of p) ≡ Found t n → MayFollow p.may_follow z more
+    → token_at q c (longer z more p) ≡ Taken t (longer z more (consumed n p))
 found_longer q c p t n z more d e m =
     front_longer q c p (Found t n) z more d (λ h. cc) e m ∙ ap (Taken t) (consumed_so p.may_follow q c p t n z more refl e m)
 
 -- a string or a comment without an end
-pub broken_longer : (q c : Delimiters) (p : Pending) (what : Unended) (z : List ℕ) (more : Bool) → p.definition ≡ None → scan q c p.may_follow (text_of p) ≡ Broken what → MayFollow p.may_follow z more → token_at q c (longer z more p) ≡ Refused what (line_of p)
+pub broken_longer : (q c : Delimiters) (p : Pending) (what : Unended) (z : List ℕ) (more : Bool) → p.definition ≡ None
+    → scan q c p.may_follow (text_of p) ≡ Broken what → MayFollow p.may_follow z more
+    → token_at q c (longer z more p) ≡ Refused what (line_of p)
 broken_longer q c p what z more d e m = front_longer q c p (Broken what) z more d (λ h. cc) e m
 
-paren_more : (may more : Bool) (q c : Delimiters) (x z : List ℕ) (l : Bool) → paren_in q c may x ≡ answer_of l → MayFollow may z more → paren_in q c more (x ++ z) ≡ answer_of l
+paren_more : (may more : Bool) (q c : Delimiters) (x z : List ℕ) (l : Bool) → paren_in q c may x ≡ answer_of l
+    → MayFollow may z more → paren_in q c more (x ++ z) ≡ answer_of l
 paren_more true more q c x z l e m =
     ⊎_elim (λ (h : paren_in q c true x ≡ Unknown). known l (sym e ∙ h)) (λ h. h ∙ e) (paren_in_stays q c more x z)
   where
@@ -67,7 +77,8 @@ paren_more false more q c x z l e m =
     ap (λ b. paren_in q c b (x ++ z)) m.1 ∙ ap (λ (y : List ℕ). paren_in q c false (x ++ y)) m.0 ∙ ap (paren_in q c false) (append-nil x) ∙ e
 
 -- whether a list follows
-pub paren_longer : (q c : Delimiters) (p : Pending) (l : Bool) (z : List ℕ) (more : Bool) → p.definition ≡ None → paren_at q c p ≡ answer_of l → MayFollow p.may_follow z more → paren_at q c (longer z more p) ≡ answer_of l
+pub paren_longer : (q c : Delimiters) (p : Pending) (l : Bool) (z : List ℕ) (more : Bool) → p.definition ≡ None
+    → paren_at q c p ≡ answer_of l → MayFollow p.may_follow z more → paren_at q c (longer z more p) ≡ answer_of l
 paren_longer q c p l z more d e m =
     ap (λ o. paren_from o q c (longer z more p)) d
     ∙ ap (paren_in q c more) (text_longer z more p)

@@ -61,7 +61,9 @@ module _ (o m : List ℕ) (calls nesting : ℕ) where
   alike_out : (f : Kept) (u w : Expansion) → Prefixed u w → AlikeOuts Expansion Kept Ended Prefixed (join f u) (join f w)
   alike_out f u w r =
       subst (λ (x : Expansion). AlikeOuts Expansion Kept Ended Prefixed (join f x) (join f w)) (sym r.0)
-      (alike_out_of (join f (B' w)) (join f w) (join_meets o m 0 calls calls nesting nesting (room_same calls) (λ k h. h) (λ h. ⊥) (inr (refl, refl)) (inr refl) w.mode f w r.1))
+      (alike_out_of (join f (B' w)) (join f w)
+      (join_meets o m 0 calls calls nesting nesting (room_same calls) (λ k h. h) (λ h. ⊥) (inr (refl, refl))
+      (inr refl) w.mode f w r.1))
 
 -- how many turns a machine still has
 abbrev pub turns_of : Engine → Pending → ℕ
@@ -86,7 +88,9 @@ some_left : (e e2 : Engine) (p : Pending) (x y : List ℕ) → e ≡ record e2 {
 some_left e e2 p x y h = sym (same_left e2 p) ∙ sym (ap (λ (d : Engine). turns_of (after_flush d) p) h) ∙ same_left e p
 
 -- a move of the bytes in hand alone
-move_alone : (e e' : Engine) (p p' : Pending) → p'.may_follow ≡ p.may_follow → Moves p.may_follow e' p' turns.GoesOn (λ z more o m. moved (configuration o m e (longer z more p))) → (o m : List ℕ) → moved (configuration o m e p) ≡ Goes (configuration o m e' p')
+move_alone : (e e' : Engine) (p p' : Pending) → p'.may_follow ≡ p.may_follow
+    → Moves p.may_follow e' p' turns.GoesOn (λ z more o m. moved (configuration o m e (longer z more p)))
+    → (o m : List ℕ) → moved (configuration o m e p) ≡ Goes (configuration o m e' p')
 move_alone e e' p p' k h o m =
     ap (λ (q : Pending). moved (configuration o m e q)) (sym (nothing_more p))
     ∙ h [] p.may_follow (nothing_follows p.may_follow) o m
@@ -94,9 +98,13 @@ move_alone e e' p p' k h o m =
     ∙ ap (λ (q : Pending). Goes (configuration o m e' q)) (nothing_more p')
 
 -- a move takes a turn
-pub turn_falls : (e e' : Engine) (p p' : Pending) → p'.may_follow ≡ p.may_follow → Moves p.may_follow e' p' turns.GoesOn (λ z more o m. moved (configuration o m e (longer z more p))) → turns_of e' p' < turns_of e p
+pub turn_falls : (e e' : Engine) (p p' : Pending) → p'.may_follow ≡ p.may_follow
+    → Moves p.may_follow e' p' turns.GoesOn (λ z more o m. moved (configuration o m e (longer z more p)))
+    → turns_of e' p' < turns_of e p
 turn_falls e e' p p' k h =
-    let f : turns_of e' p' + 1 ≡ turns_of e p = turns_fall Expansion Kept Ended turn join out_of_bound_at size_of calls_left falls (configuration [] [] e p) (configuration [] [] e' p') (move_alone e e' p p' k h [] []) in
+    let f : turns_of e' p' + 1 ≡ turns_of e p =
+    turns_fall Expansion Kept Ended turn join out_of_bound_at size_of calls_left falls (configuration [] [] e p)
+    (configuration [] [] e' p') (move_alone e e' p p' k h [] []) in
     omega arith
 
 pub move_falls : (e e' e2 : Engine) (p p' : Pending) (x y : List ℕ) → p'.may_follow ≡ p.may_follow
@@ -110,7 +118,10 @@ abbrev pub meaning_of : List ℕ → List ℕ → Engine → Pending → Outcome
 meaning_of o m e p = meaning Expansion Kept Ended turn join expand (configuration o m e p)
 
 -- a move changes nothing of it
-pub moved_on : (e e' : Engine) (p p' : Pending) (z : List ℕ) (more : Bool) (o m : List ℕ) → MayFollow p.may_follow z more → Moves p.may_follow e' p' turns.GoesOn (λ z more o m. moved (configuration o m e (longer z more p))) → meaning_of o m e' (longer z more p') ≡ meaning_of o m e (longer z more p)
+pub moved_on : (e e' : Engine) (p p' : Pending) (z : List ℕ) (more : Bool) (o m : List ℕ)
+    → MayFollow p.may_follow z more
+    → Moves p.may_follow e' p' turns.GoesOn (λ z more o m. moved (configuration o m e (longer z more p)))
+    → meaning_of o m e' (longer z more p') ≡ meaning_of o m e (longer z more p)
 moved_on e e' p p' z more o m c h =
     ap (moved_meaning Expansion Kept Ended turn join expand) (sym (h z more c o m))
     ∙ move_keeps Expansion Kept Ended turn join out_of_bound_at size_of calls_left falls (configuration o m e (longer z more p))

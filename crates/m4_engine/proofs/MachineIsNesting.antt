@@ -10,11 +10,13 @@ module _ (S F D : Type 0) (turn : S → Turn S F D) (join : F → S → Outcome 
   resume-halted whole [] d = refl
   resume-halted whole (s ∷ ss) d = resume-halted whole ss d
 
-module _ (S F D : Type 0) (turn : S → Turn S F D) (join : F → S → Outcome S D) (spent : S → D) (size left : S → ℕ) (falls : Falls S F D turn join size left) where
+module _ (S F D : Type 0) (turn : S → Turn S F D) (join : F → S → Outcome S D) (spent : S → D) (size left : S → ℕ)
+    (falls : Falls S F D turn join size left) where
   abbrev all_of : S → Outcome S D
   all_of = expansion S F D turn join spent size left
 
-  pub popped : (ss : List F) (o : Outcome S D) → moved_meaning S F D turn join all_of (pop S F D turn join ss o) ≡ resume S F D turn join all_of ss (then_on o all_of)
+  pub popped : (ss : List F) (o : Outcome S D)
+      → moved_meaning S F D turn join all_of (pop S F D turn join ss o) ≡ resume S F D turn join all_of ss (then_on o all_of)
   popped ss (Halted d) = sym (resume-halted S F D turn join all_of ss d)
   popped ss (Closed s) = refl
 
@@ -22,7 +24,9 @@ module _ (S F D : Type 0) (turn : S → Turn S F D) (join : F → S → Outcome 
   closed [] t = refl
   closed (s ∷ ss) t = popped ss (join s t)
 
-  turned : (ss : List F) (v : Turn S F D) → moved_meaning S F D turn join all_of (take_turn S F D turn join ss v) ≡ resume S F D turn join all_of ss (after S F D join all_of all_of v)
+  turned : (ss : List F) (v : Turn S F D)
+      → moved_meaning S F D turn join all_of (take_turn S F D turn join ss v)
+      ≡ resume S F D turn join all_of ss (after S F D join all_of all_of v)
   turned ss (Halt d) = sym (resume-halted S F D turn join all_of ss d)
   turned ss (Close t) = closed ss t
   turned ss (GoOn t) = refl

@@ -27,9 +27,12 @@ turn_makes e e' i j turns.GoesOn h k z more c o m =
     subst (λ (v : Next). Extends (so_far_of o m e') (made_by v)) (sym (h z more c o m)) (extends_same (so_far_of o m e'))
 turn_makes e e' i j turns.SkipsLine h k z more c o m =
     subst (λ (v : Next). Extends (so_far_of o m e') (made_by v)) (sym (h z more c o m))
-    (subst (λ (r : RunSoFar). Extends (so_far_of o m e') r) (sym (skipping_makes (outer_of e'.open_calls) (line_length (text_of (longer z more j.pending))) (here_of o m e' (longer z more j.pending)))) (extends_same (so_far_of o m e')))
+    (subst (λ (r : RunSoFar). Extends (so_far_of o m e') r)
+    (sym (skipping_makes (outer_of e'.open_calls) (line_length (text_of (longer z more j.pending)))
+    (here_of o m e' (longer z more j.pending)))) (extends_same (so_far_of o m e')))
 turn_makes e e' i j turns.NeedsMore h k z more c o m =
-    subst (λ (d : Engine). Extends (so_far_of o m d) (made_by (moved (configuration o m e (longer z more i.pending))))) (sym k.engine) (moment_keeps (configuration o m e (longer z more i.pending)))
+    subst (λ (d : Engine). Extends (so_far_of o m d) (made_by (moved (configuration o m e (longer z more i.pending)))))
+    (sym k.engine) (moment_keeps (configuration o m e (longer z more i.pending)))
 turn_makes e e' i j (turns.Ends end) h k z more c o m =
     subst (λ (v : Next). Extends (so_far_of o m e') (made_by v)) (sym (h z more c o m)) (extends_same (so_far_of o m e'))
 
@@ -95,7 +98,8 @@ mark_more w e0 p0 o m x k = record {
 }
 
 -- on from a place that another leads to
-pub mark_then : (w v : Wanted) (e0 e : Engine) (p0 p : Pending) (o m x y : List ℕ) → Leads w e0 p0 v e p o m → Marked v e p x y → Marked w e0 p0 (o ++ x) (m ++ y)
+pub mark_then : (w v : Wanted) (e0 e : Engine) (p0 p : Pending) (o m x y : List ℕ) → Leads w e0 p0 v e p o m
+    → Marked v e p x y → Marked w e0 p0 (o ++ x) (m ++ y)
 mark_then w v e0 e p0 p o m x y l k = record {
   at = k.at;
   q = k.q;
@@ -114,7 +118,9 @@ mark_then w v e0 e p0 p o m x y l k = record {
       let made = k.makes z more (subst (λ v. MayFollow v z more) (sym l.follows) c) (a ++ o) (b ++ m) in (
         made.0,
         ap (λ (n : List ℕ). (made_by (moved (configuration n (b ++ (m ++ k.reported)) k.at (longer z more k.q)))).messages) (sym (append_assoc a o k.before))
-            ∙ ap (λ (n : List ℕ). (made_by (moved (configuration ((a ++ o) ++ k.before) n k.at (longer z more k.q)))).messages) (sym (append_assoc b m k.reported))
+            ∙ ap (λ (n : List ℕ). (made_by
+            (moved (configuration ((a ++ o) ++ k.before) n k.at (longer z more k.q)))).messages)
+            (sym (append_assoc b m k.reported))
             ∙ made.1
             ∙ ap (λ (n : List ℕ). n ++ made.0) (append_assoc b m (k.reported ++ k.own))
             ∙ ap (λ (n : List ℕ). (b ++ n) ++ made.0) (sym (append_assoc m k.reported k.own)),
@@ -124,7 +130,8 @@ mark_then w v e0 e p0 p o m x y l k = record {
 -- ---- after a flush
 
 -- nothing was flushed, or all, is some of it
-abbrev pub due_some : (e e2 : Engine) (out out' reported reported' : Option (List ℕ)) → FlushesDue e e2 (writers out out' reported reported') → FlushesSome e e2 (writers out out' reported reported')
+abbrev pub due_some : (e e2 : Engine) (out out' reported reported' : Option (List ℕ))
+    → FlushesDue e e2 (writers out out' reported reported') → FlushesSome e e2 (writers out out' reported reported')
 due_some e e2 out out' reported reported' (inl h) = record { front = []; reported = []; held = sym h.0; output = (h.1).output; messages = (h.1).messages }
 due_some e e2 out out' reported reported' (inr h) = record {
   front = e.output;

@@ -36,7 +36,8 @@ later_same i xs ys e =
     ap (λ (k : ℕ). drop k xs) n ∙ sym (drop-drop 1 i xs) ∙ ap (drop 1) e ∙ drop-drop 1 i ys
 
 -- one more source
-missed_take : {R : Type 0} (i : ℕ) (ys : List (RunSource R)) (s : RunSource R) (rest : List (RunSource R)) → drop i ys ≡ s ∷ rest → any_unopened (take (suc i) ys) ≡ (any_unopened (take i ys) || is_unopened s)
+missed_take : {R : Type 0} (i : ℕ) (ys : List (RunSource R)) (s : RunSource R) (rest : List (RunSource R))
+    → drop i ys ≡ s ∷ rest → any_unopened (take (suc i) ys) ≡ (any_unopened (take i ys) || is_unopened s)
 missed_take zero [] s rest e = absurd cc
 missed_take zero (y ∷ ys) s rest e =
     let k : y ≡ s = cc in
@@ -45,11 +46,14 @@ missed_take (suc i) [] s rest e = absurd cc
 missed_take (suc i) (y ∷ ys) s rest e =
     ap (λ (b : Bool). is_unopened y || b) (missed_take i ys s rest e) ∙ or_assoc (is_unopened y) (any_unopened (take i ys)) (is_unopened s)
 
-pub begun_on : {R : Type 0} (i : ℕ) (xs ys : List (RunSource R)) (x : RunSource R) (m m' t : Bool) → drop i xs ≡ drop i ys → i < length xs → m' ≡ (is_unopened (slice_index_or xs i x) || m) → m ≡ (any_unopened (take i ys) || t) → m' ≡ (any_unopened (take (i + 1) ys) || t)
+pub begun_on : {R : Type 0} (i : ℕ) (xs ys : List (RunSource R)) (x : RunSource R) (m m' t : Bool)
+    → drop i xs ≡ drop i ys → i < length xs → m' ≡ (is_unopened (slice_index_or xs i x) || m)
+    → m ≡ (any_unopened (take i ys) || t) → m' ≡ (any_unopened (take (i + 1) ys) || t)
 begun_on i xs ys x m m' t e l h k =
     let s = slice_index_or xs i x in
     let n : suc i ≡ i + 1 = omega arith in
-    let more : any_unopened (take (suc i) ys) ≡ (any_unopened (take i ys) || is_unopened s) = missed_take i ys s (drop (suc i) xs) (sym e ∙ drop-cons xs i x l) in
+    let more : any_unopened (take (suc i) ys) ≡ (any_unopened (take i ys) || is_unopened s) =
+    missed_take i ys s (drop (suc i) xs) (sym e ∙ drop-cons xs i x l) in
     h ∙ ap (λ (b : Bool). is_unopened s || b) k ∙ or_turn (any_unopened (take i ys)) (is_unopened s) t
     ∙ ap (λ (b : Bool). b || t) (sym more ∙ ap (λ (j : ℕ). any_unopened (take j ys)) n)
 
@@ -58,7 +62,9 @@ opened_of : {R : Type 0} (s : RunSource R) → is_unopened s ≡ false → (name
 opened_of (sources.Opened name reader) e = (name, reader, refl)
 opened_of (sources.Unopened name) e = absurd cc
 
-pub exited_there : {R : Type 0} (i : ℕ) (xs ys : List (RunSource R)) (x v : RunSource R) (m m' t : Bool) → drop i xs ≡ drop i ys → i < length xs → m ≡ (any_unopened (take i ys) || t) → (is_unopened (slice_index_or xs i x) ≡ false) × (m' ≡ m) → t ≡ false → MissedBy ys (slice_set xs i v) m'
+pub exited_there : {R : Type 0} (i : ℕ) (xs ys : List (RunSource R)) (x v : RunSource R) (m m' t : Bool)
+    → drop i xs ≡ drop i ys → i < length xs → m ≡ (any_unopened (take i ys) || t)
+    → (is_unopened (slice_index_or xs i x) ≡ false) × (m' ≡ m) → t ≡ false → MissedBy ys (slice_set xs i v) m'
 exited_there i xs ys x v m m' t e l k h n =
     let s = slice_index_or xs i x in
     let o = opened_of s h.0 in
@@ -70,7 +76,8 @@ exited_there i xs ys x v m m' t e l k h n =
       rest = drop (i + 1) ys;
       parts = sym (take-append-drop i ys) ∙ ap (λ (z : List (RunSource _)). take i ys ++ z) (there ∙ ap (λ (y : RunSource _). y ∷ drop (i + 1) ys) o.2);
       read = take (i + 1) (slice_set xs i v);
-      untouched = sym (take-append-drop (i + 1) (slice_set xs i v)) ∙ ap (λ (z : List (RunSource _)). take (i + 1) (slice_set xs i v) ++ z) (rest_kept xs ys i v e);
+      untouched = sym (take-append-drop (i + 1) (slice_set xs i v))
+          ∙ ap (λ (z : List (RunSource _)). take (i + 1) (slice_set xs i v) ++ z) (rest_kept xs ys i v e);
       missed = h.1 ∙ k ∙ ap (λ (b : Bool). any_unopened (take i ys) || b) n ∙ or_none (any_unopened (take i ys));
     })
 
@@ -84,10 +91,12 @@ same_stop f s q r a b h =
     let k : f ≡ s = cc in
     a ∙ ap (λ (x : Stop). Err x) k
 
-pub opened_exits : {R : Type 0} (x : RunSource R) (name : List ℕ) (reader : R) (m m' : Bool) → x ≡ sources.Opened name reader → m' ≡ m → (is_unopened x ≡ false) × (m' ≡ m)
+pub opened_exits : {R : Type 0} (x : RunSource R) (name : List ℕ) (reader : R) (m m' : Bool)
+    → x ≡ sources.Opened name reader → m' ≡ m → (is_unopened x ≡ false) × (m' ≡ m)
 opened_exits x name reader m m' e k = (ap (λ (z : RunSource _). is_unopened z) e, k)
 
-pub missing_exits : {P : Type 0} (name : List ℕ) (old new : SessionState) (a b : Option (List ℕ)) (r : Result Unit Stop) (code : ℕ) → MissingGives name old new a b r → r ≡ Err (stops.Ended (causes.Exited code)) → P
+pub missing_exits : {P : Type 0} (name : List ℕ) (old new : SessionState) (a b : Option (List ℕ)) (r : Result Unit Stop)
+    (code : ℕ) → MissingGives name old new a b r → r ≡ Err (stops.Ended (causes.Exited code)) → P
 missing_exits name old new a b r code h e = absurd (subst (MissingGives name old new a b) e h)
 
 -- a run that begins has met no source
@@ -105,7 +114,8 @@ exits_by : (n : ℕ) (e : Stop) (code : ℕ) → (ending_by n (Err e)).cause ≡
 exits_by n stops.Finished code c = absurd cc
 exits_by n (stops.Ended cause) code c = ap (λ (z : Cause). stops.Ended z) c
 
-pub never_exited : {P : Type 0} (o : Options) (st : Result SessionState Stop) (e : Stop) (n : ℕ) (d : Ending) (code : ℕ) → st ≡ Err e → d ≡ ending_by n (Err e) → IsBegun o st → d.cause ≡ causes.Exited code → P
+pub never_exited : {P : Type 0} (o : Options) (st : Result SessionState Stop) (e : Stop) (n : ℕ) (d : Ending) (code : ℕ)
+    → st ≡ Err e → d ≡ ending_by n (Err e) → IsBegun o st → d.cause ≡ causes.Exited code → P
 never_exited o st e n d code i j h c =
     let k : (ending_by n (Err e)).cause ≡ causes.Exited code = sym (ap (λ (y : Ending). y.cause) j) ∙ c in
     absurd (subst (λ (y : Stop). IsBegun o (Err y)) (exits_by n e code k) (subst (IsBegun o) i h))

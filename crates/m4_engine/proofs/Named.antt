@@ -19,7 +19,8 @@ file_is : (o : Option (List ℕ)) → or_empty o ≡ unwrap_or o []
 file_is None = refl
 file_is (Some x) = refl
 
-pub place_of_file : (at : Place) (before p : Pending) (line : ℕ) → at.file ≡ name_of p → at.line ≡ line → before.file ≡ p.file → at ≡ record { file = or_empty before.file; line = line }
+pub place_of_file : (at : Place) (before p : Pending) (line : ℕ) → at.file ≡ name_of p → at.line ≡ line
+    → before.file ≡ p.file → at ≡ record { file = or_empty before.file; line = line }
 place_of_file at before p line e f g =
     ap (λ (x : List ℕ). let q : Place = record { file = x; line = at.line } in q) (e ∙ ap (λ o. unwrap_or o []) (sym g) ∙ sym (file_is before.file))
     ∙ ap (λ (n : ℕ). let q : Place = record { file = or_empty before.file; line = n } in q) f
@@ -28,7 +29,9 @@ pub place_of : (p : Pending) → record { file = name_of p; line = line_of p } �
 place_of p = place_of_file (record { file = name_of p; line = line_of p }) p p (line_of p) refl refl refl
 
 -- a list follows, or the definition needs none
-recognised : (listed : Bool) (fs : List Kept) (d : Def) (name : List ℕ) (at : Place) (p : Pending) (s : Expansion) → (listed ≡ false → needs_list d ≡ false) → step fs (take_call (answer_of listed) (call_of d name at) p s) ≡ step fs (call listed (call_of d name at) p s)
+recognised : (listed : Bool) (fs : List Kept) (d : Def) (name : List ℕ) (at : Place) (p : Pending) (s : Expansion)
+    → (listed ≡ false → needs_list d ≡ false)
+    → step fs (take_call (answer_of listed) (call_of d name at) p s) ≡ step fs (call listed (call_of d name at) p s)
 recognised true fs d name at p s h = refl
 recognised false fs d name at p s h = ap (λ v. step fs (call_without_list v (call_of d name at) p s)) (h refl)
 

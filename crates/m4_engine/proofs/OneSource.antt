@@ -26,7 +26,8 @@ on_ok (Ok x) p = p
 on_ok (Err e) p = tt
 
 -- a file that is read leaves the session open, or over by the cause that is answered
-file_left : (name : List ℕ) (before after : Option Script) (old new : SessionState) (w : Contents) (r : Result Unit Stop) → IsOpen old → FileGives name before after old new w r → IsLeft new r × OnOk r (IsOpen new)
+file_left : (name : List ℕ) (before after : Option Script) (old new : SessionState) (w : Contents)
+    (r : Result Unit Stop) → IsOpen old → FileGives name before after old new w r → IsLeft new r × OnOk r (IsOpen new)
 file_left name before after old new w (Ok done) l h = (h.4, record { over = h.4; unfinished = (h.3).unfinished })
 file_left name before after old new w (Err stops.Finished) l h = absurd ((h.0).closed l)
 file_left name before after old new w (Err (stops.Ended causes.Done)) l h = absurd h
@@ -42,7 +43,8 @@ file_left name before after old new w (Err (stops.Ended causes.ExpansionLimit)) 
 file_left name before after old new w (Err (stops.Ended causes.NestingLimit)) l h = (h.1, tt)
 
 -- nothing but bytes was taken of its reader
-file_taken : (name : List ℕ) (before after : Option Script) (old new : SessionState) (w : Contents) (r : Result Unit Stop) → IsOpen old → FileGives name before after old new w r → (x : List ℕ) × (before ≡ after_bytes x after)
+file_taken : (name : List ℕ) (before after : Option Script) (old new : SessionState) (w : Contents)
+    (r : Result Unit Stop) → IsOpen old → FileGives name before after old new w r → (x : List ℕ) × (before ≡ after_bytes x after)
 file_taken name before after old new w (Ok done) l h = (h.0, h.1)
 file_taken name before after old new w (Err stops.Finished) l h = absurd ((h.0).closed l)
 file_taken name before after old new w (Err (stops.Ended causes.Done)) l h = absurd h
@@ -58,7 +60,8 @@ file_taken name before after old new w (Err (stops.Ended causes.ExpansionLimit))
 file_taken name before after old new w (Err (stops.Ended causes.NestingLimit)) l h = ((h.0).x, (h.0).given)
 
 -- a source that wasn't opened
-missing_left : (name : List ℕ) (old new : SessionState) (a b : Option (List ℕ)) (r : Result Unit Stop) → IsOpen old → MissingGives name old new a b r → IsLeft new r × OnOk r (IsOpen new)
+missing_left : (name : List ℕ) (old new : SessionState) (a b : Option (List ℕ)) (r : Result Unit Stop) → IsOpen old
+    → MissingGives name old new a b r → IsLeft new r × OnOk r (IsOpen new)
 missing_left name old new a b (Ok done) l h = ((h.1).over, h.1)
 missing_left name old new a b (Err stops.Finished) l h = absurd (h.0 l)
 missing_left name old new a b (Err (stops.Ended causes.Write)) l h = ((h.0).over, tt)
@@ -73,7 +76,8 @@ missing_left name old new a b (Err (stops.Ended causes.EndInArguments)) l h = ab
 missing_left name old new a b (Err (stops.Ended causes.ExpansionLimit)) l h = absurd h
 missing_left name old new a b (Err (stops.Ended causes.NestingLimit)) l h = absurd h
 
-missing_writes : (name : List ℕ) (old new : SessionState) (a b : Option (List ℕ)) (out k k' : ℕ) (r : Result Unit Stop) → MissingGives name old new a b r → MessageWriteFails r k k' → WriteFails r (writers out out k k')
+missing_writes : (name : List ℕ) (old new : SessionState) (a b : Option (List ℕ)) (out k k' : ℕ) (r : Result Unit Stop)
+    → MissingGives name old new a b r → MessageWriteFails r k k' → WriteFails r (writers out out k k')
 missing_writes name old new a b out k k' (Ok done) h f = (refl, f)
 missing_writes name old new a b out k k' (Err stops.Finished) h f = (refl, f)
 missing_writes name old new a b out k k' (Err (stops.Ended causes.Write)) h f = inr (refl, f)
@@ -88,7 +92,9 @@ missing_writes name old new a b out k k' (Err (stops.Ended causes.EndInArguments
 missing_writes name old new a b out k k' (Err (stops.Ended causes.ExpansionLimit)) h f = absurd h
 missing_writes name old new a b out k k' (Err (stops.Ended causes.NestingLimit)) h f = absurd h
 
-missing_sound : {R : Type 0} (script : R → Option Script) (failures : R → ℕ) (name : List ℕ) (old new : SessionState) (a b : Option (List ℕ)) (r : Result Unit Stop) → MissingGives name old new a b r → SourceFails script failures r (sources.Unopened name) (sources.Unopened name)
+missing_sound : {R : Type 0} (script : R → Option Script) (failures : R → ℕ) (name : List ℕ) (old new : SessionState)
+    (a b : Option (List ℕ)) (r : Result Unit Stop) → MissingGives name old new a b r
+    → SourceFails script failures r (sources.Unopened name) (sources.Unopened name)
 missing_sound script failures name old new a b (Err (stops.Ended causes.Read)) h = absurd h
 missing_sound script failures name old new a b r h = tt
 

@@ -85,7 +85,9 @@ effected_keeps (Some n) skip v s = extends_same _
 effected_keeps None skip v s = pushed_keeps skip v s
 
 pub called_keeps : (c : Call) (t : Expansion) (s : Kept) → Extends t.so_far (so_far_in (called c t s))
-called_keeps c t s = extends_more _ _ _ (writes t.so_far (after_call c t s).so_far ((acted_at c t).effect).output ((acted_at c t).effect).messages refl refl) (effected_keeps _ _ _ (after_call c t s))
+called_keeps c t s = extends_more _ _ _
+    (writes t.so_far (after_call c t s).so_far ((acted_at c t).effect).output ((acted_at c t).effect).messages refl
+    refl) (effected_keeps _ _ _ (after_call c t s))
 
 pub bare_made : (o : Outcome Expansion Ended) → made (bare o) ≡ so_far_in o
 bare_made (Halted d) = refl
@@ -174,14 +176,17 @@ rules = record {
   go_on = λ s t o e p. extends_more s.so_far t.so_far (so_far_in o) (turned s (GoOn t) e) p;
   bare = λ s t o e p. extends_more s.so_far t.so_far (so_far_in o) (turned s (Bare t) e) p;
   list_halts = λ s t f d e p. extends_more s.so_far t.so_far d.so_far (turned s (Opens f t) e) p;
-  call_halts = λ s t u f d e p j. extends_more s.so_far t.so_far d.so_far (turned s (Opens f t) e) (extends_more t.so_far u.so_far d.so_far p (joined f u (Halted d) j));
-  joins = λ s t u w f o e p j q. extends_more s.so_far t.so_far (so_far_in o) (turned s (Opens f t) e) (extends_more t.so_far u.so_far (so_far_in o) p (extends_more u.so_far w.so_far (so_far_in o) (joined f u (Closed w) j) q));
+  call_halts = λ s t u f d e p j. extends_more s.so_far t.so_far d.so_far (turned s (Opens f t) e)
+      (extends_more t.so_far u.so_far d.so_far p (joined f u (Halted d) j));
+  joins = λ s t u w f o e p j q. extends_more s.so_far t.so_far (so_far_in o) (turned s (Opens f t) e)
+      (extends_more t.so_far u.so_far (so_far_in o) p (extends_more u.so_far w.so_far (so_far_in o) (joined f u (Closed w) j) q));
 }
 
 pub whole_keeps : (s : Expansion) → Extends s.so_far (so_far_in (expand s))
 whole_keeps = holds Expansion Kept Ended turn join out_of_bound_at size_of calls_left falls Post rules
 
-pub then_keeps : (o : Outcome Expansion Ended) (f : Expansion → Outcome Expansion Ended) → ((u : Expansion) → Extends u.so_far (so_far_in (f u))) → Extends (so_far_in o) (so_far_in (then_on o f))
+pub then_keeps : (o : Outcome Expansion Ended) (f : Expansion → Outcome Expansion Ended)
+    → ((u : Expansion) → Extends u.so_far (so_far_in (f u))) → Extends (so_far_in o) (so_far_in (then_on o f))
 then_keeps (Halted d) f g = extends_same d.so_far
 then_keeps (Closed u) f g = g u
 
@@ -228,39 +233,51 @@ skipping_makes fs None s = by_end (s.pending).may_follow
     by_end false = refl
 
 -- what a turn leaves holds the output of before it
-pub output_stays : (e e' : Engine) (i j : Held) (t : Turned) → Moves (i.pending).may_follow e' j.pending t (λ z more o m. moved (configuration o m e (longer z more i.pending))) → IsTurned e e' i j t → length e.output ≤ length e'.output
+pub output_stays : (e e' : Engine) (i j : Held) (t : Turned)
+    → Moves (i.pending).may_follow e' j.pending t (λ z more o m. moved (configuration o m e (longer z more i.pending)))
+    → IsTurned e e' i j t → length e.output ≤ length e'.output
 output_stays e e' i j turns.GoesOn h k =
     let may : Bool = (i.pending).may_follow in
-    longer_by e e' (subst (λ v. Extends (so_far_of [] [] e) (made_by v)) (h [] may (nothing_follows may) [] []) (moment_keeps (configuration [] [] e (longer [] may i.pending))))
+    longer_by e e' (subst (λ v. Extends (so_far_of [] [] e) (made_by v)) (h [] may (nothing_follows may) [] [])
+    (moment_keeps (configuration [] [] e (longer [] may i.pending))))
 output_stays e e' i j turns.SkipsLine h k =
     let may : Bool = (i.pending).may_follow in
     longer_by e e' (subst (λ r. Extends (so_far_of [] [] e) r)
-    (ap made_by (h [] may (nothing_follows may) [] []) ∙ skipping_makes (outer_of e'.open_calls) (line_length (text_of (longer [] may j.pending))) (here_of [] [] e' (longer [] may j.pending)))
+    (ap made_by (h [] may (nothing_follows may) [] [])
+    ∙ skipping_makes (outer_of e'.open_calls) (line_length (text_of (longer [] may j.pending)))
+    (here_of [] [] e' (longer [] may j.pending)))
     (moment_keeps (configuration [] [] e (longer [] may i.pending))))
 output_stays e e' i j turns.NeedsMore h k =
     let same : length e'.output ≡ length e.output = ap (λ (d : Engine). length d.output) k.engine in
     omega arith
 output_stays e e' i j (turns.Ends cause) h k =
     let may : Bool = (i.pending).may_follow in
-    longer_by e e' (subst (λ v. Extends (so_far_of [] [] e) (made_by v)) (h [] may (nothing_follows may) [] []) (moment_keeps (configuration [] [] e (longer [] may i.pending))))
+    longer_by e e' (subst (λ v. Extends (so_far_of [] [] e) (made_by v)) (h [] may (nothing_follows may) [] [])
+    (moment_keeps (configuration [] [] e (longer [] may i.pending))))
 
 front_by : (e e' : Engine) → Extends (so_far_of [] [] e) (so_far_of [] [] e') → (x : List ℕ) × (e'.output ≡ e.output ++ x)
 front_by e e' x = (x.more, x.output)
 
 -- and begins with what was there
-pub output_front : (e e' : Engine) (i j : Held) (t : Turned) → Moves (i.pending).may_follow e' j.pending t (λ z more o m. moved (configuration o m e (longer z more i.pending))) → IsTurned e e' i j t → (x : List ℕ) × (e'.output ≡ e.output ++ x)
+pub output_front : (e e' : Engine) (i j : Held) (t : Turned)
+    → Moves (i.pending).may_follow e' j.pending t (λ z more o m. moved (configuration o m e (longer z more i.pending)))
+    → IsTurned e e' i j t → (x : List ℕ) × (e'.output ≡ e.output ++ x)
 output_front e e' i j turns.GoesOn h k =
     let may : Bool = (i.pending).may_follow in
-    front_by e e' (subst (λ v. Extends (so_far_of [] [] e) (made_by v)) (h [] may (nothing_follows may) [] []) (moment_keeps (configuration [] [] e (longer [] may i.pending))))
+    front_by e e' (subst (λ v. Extends (so_far_of [] [] e) (made_by v)) (h [] may (nothing_follows may) [] [])
+    (moment_keeps (configuration [] [] e (longer [] may i.pending))))
 output_front e e' i j turns.SkipsLine h k =
     let may : Bool = (i.pending).may_follow in
     front_by e e' (subst (λ r. Extends (so_far_of [] [] e) r)
-    (ap made_by (h [] may (nothing_follows may) [] []) ∙ skipping_makes (outer_of e'.open_calls) (line_length (text_of (longer [] may j.pending))) (here_of [] [] e' (longer [] may j.pending)))
+    (ap made_by (h [] may (nothing_follows may) [] [])
+    ∙ skipping_makes (outer_of e'.open_calls) (line_length (text_of (longer [] may j.pending)))
+    (here_of [] [] e' (longer [] may j.pending)))
     (moment_keeps (configuration [] [] e (longer [] may i.pending))))
 output_front e e' i j turns.NeedsMore h k = ([], ap (λ (d : Engine). d.output) k.engine ∙ sym (append-nil e.output))
 output_front e e' i j (turns.Ends cause) h k =
     let may : Bool = (i.pending).may_follow in
-    front_by e e' (subst (λ v. Extends (so_far_of [] [] e) (made_by v)) (h [] may (nothing_follows may) [] []) (moment_keeps (configuration [] [] e (longer [] may i.pending))))
+    front_by e e' (subst (λ v. Extends (so_far_of [] [] e) (made_by v)) (h [] may (nothing_follows may) [] [])
+    (moment_keeps (configuration [] [] e (longer [] may i.pending))))
 
 -- the expansion of an input
 pub input_keeps : (limits : Limits) (r : RunSoFar) (p : Pending) → Extends r (expand_input limits r p).so_far

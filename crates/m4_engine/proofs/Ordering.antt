@@ -53,11 +53,13 @@ stop_breaks A B (stops.Ended causes.Write) P Q f h = f h
 stop_breaks A B (stops.Ended causes.OutOfMemory) P Q f h = f h
 stop_breaks A B e P Q f h = tt
 
-pub same_breaks : (A B : Type 0) (e : Stop) (q : Result A Stop) (r : Result B Stop) (P Q : Type 0) → q ≡ Err e → r ≡ Err e → (P → Q) → BreaksBy q P → BreaksBy r Q
+pub same_breaks : (A B : Type 0) (e : Stop) (q : Result A Stop) (r : Result B Stop) (P Q : Type 0) → q ≡ Err e
+    → r ≡ Err e → (P → Q) → BreaksBy q P → BreaksBy r Q
 same_breaks A B e q r P Q i j f h =
     subst (λ (x : Result B Stop). BreaksBy x Q) (sym j) (stop_breaks A B e P Q f (subst (λ (x : Result A Stop). BreaksBy x P) i h))
 
-told_answer : (e : Engine) (p : Pending) (before after : Option Script) (w : Contents) (P : Type 0) (cause : Cause) → (StepBreaks e p before after w → P) → StepBreaksBy e p before after w cause → BreaksBy (answer_by cause) P
+told_answer : (e : Engine) (p : Pending) (before after : Option Script) (w : Contents) (P : Type 0) (cause : Cause)
+    → (StepBreaks e p before after w → P) → StepBreaksBy e p before after w cause → BreaksBy (answer_by cause) P
 told_answer e p before after w P causes.Write f h = f h
 told_answer e p before after w P causes.OutOfMemory f h = f h
 told_answer e p before after w P causes.Done f h = tt
@@ -90,7 +92,8 @@ nothing_told start o m out0 out reported0 reported e f g h =
 first_turn : (start : Expansion) → IsTurnOf start start.so_far (made_by (moved (first_moment start)))
 first_turn start = record { way = []; at = first_moment start; comes = refl; made = refl; makes = refl }
 
-silent_source : (old : SessionState) (name bytes : List ℕ) (w : Contents) → IsOpen old → w.out_new ≡ w.out_old → w.messages_new ≡ w.messages_old → Breaks (IsStepOf old.limits (Opened name bytes)) (progress_of old) w
+silent_source : (old : SessionState) (name bytes : List ℕ) (w : Contents) → IsOpen old → w.out_new ≡ w.out_old
+    → w.messages_new ≡ w.messages_old → Breaks (IsStepOf old.limits (Opened name bytes)) (progress_of old) w
 silent_source old name bytes w l h i = λ o m out messages f g.
     let start : Expansion = expansion_of old.limits (preceded o m (progress_of old)).so_far (file_pending name bytes false) in (
       start.so_far,
@@ -99,9 +102,11 @@ silent_source old name bytes w l h i = λ o m out messages f g.
       nothing_told start o m out w.out_new messages w.messages_new refl refl (h ∙ f) (i ∙ g),
     )
 
-pub silent_round : (old : SessionState) (w : Contents) → IsOpen old → old.saved ≢ [] → w.out_new ≡ w.out_old → w.messages_new ≡ w.messages_old → Breaks (IsTurnOfRound old.limits) (progress_of old) w
+pub silent_round : (old : SessionState) (w : Contents) → IsOpen old → old.saved ≢ [] → w.out_new ≡ w.out_old
+    → w.messages_new ≡ w.messages_old → Breaks (IsTurnOfRound old.limits) (progress_of old) w
 silent_round old w l n h i = λ o m out messages f g.
-    let start : Expansion = expansion_of old.limits (record (preceded o m (progress_of old)).so_far { saved = [] }) (wrapped_pending (joined_back old.saved)) in (
+    let start : Expansion = expansion_of old.limits (record (preceded o m (progress_of old)).so_far { saved = [] })
+    (wrapped_pending (joined_back old.saved)) in (
       start.so_far,
       made_by (moved (first_moment start)),
       record { goes_on = ap how_over l.over; saved = n; turn = first_turn start },
@@ -122,7 +127,9 @@ session_of e any_missing over finished = record {
   finished = finished;
 }
 
-file_breaks : (e : Engine) (any_missing : Bool) (name : List ℕ) (before after : Option Script) (w : Contents) → StepBreaks e (unread_file name).pending before after w → FileBreaks e.limits (progress_of (session_of e any_missing None false)) name before after w
+file_breaks : (e : Engine) (any_missing : Bool) (name : List ℕ) (before after : Option Script) (w : Contents)
+    → StepBreaks e (unread_file name).pending before after w
+    → FileBreaks e.limits (progress_of (session_of e any_missing None false)) name before after w
 file_breaks e any_missing name before after w r = record {
   x = r.x;
   may_follow = (r.q).may_follow;
@@ -130,12 +137,15 @@ file_breaks e any_missing name before after w r = record {
   at_end = λ i. (r.reads).at_end refl i;
   asked = tt;
   so = λ z i o m out messages f g.
-      let k = subst (λ (q : Pending). Breaks (λ t. IsTurnOf (expansion_of e.limits t.so_far q)) (progress_before e) w) (taken_file name r.x before after r.q z false r.reads) (r.so z false (may_end (r.q).may_follow z i)) o m out messages f g in
+      let k = subst (λ (q : Pending). Breaks (λ t. IsTurnOf (expansion_of e.limits t.so_far q)) (progress_before e) w)
+      (taken_file name r.x before after r.q z false r.reads) (r.so z false (may_end (r.q).may_follow z i)) o m out
+      messages f g in
       (k.0, k.1, (refl, k.2), k.3);
 }
 
 -- an open session
-open_over : (old : SessionState) (e : Engine) (any_missing : Bool) (over : Option Cause) (finished : Bool) → old ≡ session_of e any_missing over finished → IsOpen old → over ≡ None
+open_over : (old : SessionState) (e : Engine) (any_missing : Bool) (over : Option Cause) (finished : Bool)
+    → old ≡ session_of e any_missing over finished → IsOpen old → over ≡ None
 open_over old e any_missing over finished o l = ap (λ (s : SessionState). s.over) (sym o) ∙ l.over
 
 pub file_told : (old : SessionState) (e : Engine) (any_missing : Bool) (over : Option Cause) (finished : Bool)
@@ -146,12 +156,15 @@ pub file_told : (old : SessionState) (e : Engine) (any_missing : Bool) (over : O
 file_told old e any_missing over finished name i before after w cause result o l n h r =
     let k : StepBreaksBy e (unread_file name).pending before after w cause = subst (λ (x : Held). StepBreaksBy e x.pending before after w cause) n h in
     subst (λ (s : SessionState). BreaksBy result (FileBreaks s.limits (progress_of s) name before after w)) (sym o)
-    (subst (λ (v : Option Cause). BreaksBy result (FileBreaks e.limits (progress_of (session_of e any_missing v finished)) name before after w)) (sym (open_over old e any_missing over finished o l))
+    (subst (λ (v : Option Cause). BreaksBy result
+    (FileBreaks e.limits (progress_of (session_of e any_missing v finished)) name before after w))
+    (sym (open_over old e any_missing over finished o l))
     (subst (λ (x : Result Unit Stop). BreaksBy x (FileBreaks e.limits (progress_of (session_of e any_missing None finished)) name before after w)) (sym r)
     (told_answer e (unread_file name).pending before after w _ cause (file_breaks e any_missing name before after w) k)))
 
 round_breaks : (e ea : Engine) (any_missing : Bool) (before after : Option Script) (w : Contents) → e.saved ≢ [] → ea ≡ record e { saved = [] }
-    → StepBreaks ea (wrapped_pending (joined_back e.saved)) before after w → Breaks (IsTurnOfRound e.limits) (progress_of (session_of e any_missing None false)) w
+    → StepBreaks ea (wrapped_pending (joined_back e.saved)) before after w
+    → Breaks (IsTurnOfRound e.limits) (progress_of (session_of e any_missing None false)) w
 round_breaks e ea any_missing before after w n a r = λ o m out messages f g.
     let p : Pending = wrapped_pending (joined_back e.saved) in
     let c = closed_rest p r.q before after r.x refl r.reads in
@@ -167,10 +180,14 @@ pub round_told : (old : SessionState) (e ea : Engine) (any_missing : Bool) (over
     → result ≡ answer_by cause → BreaksBy result (Breaks (IsTurnOfRound old.limits) (progress_of old) w)
 round_told old e ea any_missing over finished x i before after w cause result o l s a j n h r =
     let p : Pending = wrapped_pending (joined_back e.saved) in
-    let k : StepBreaksBy ea p before after w cause = subst (λ (y : Pending). StepBreaksBy ea y before after w cause) (ap (λ (h : Held). h.pending) n ∙ ap wrapped_pending j) h in
+    let k : StepBreaksBy ea p before after w cause =
+    subst (λ (y : Pending). StepBreaksBy ea y before after w cause)
+    (ap (λ (h : Held). h.pending) n ∙ ap wrapped_pending j) h in
     let there : e.saved ≢ [] = subst (λ (v : List (List ℕ)). v ≢ []) (ap (λ (t : SessionState). t.saved) o) s in
     subst (λ (t : SessionState). BreaksBy result (Breaks (IsTurnOfRound t.limits) (progress_of t) w)) (sym o)
-    (subst (λ (v : Option Cause). BreaksBy result (Breaks (IsTurnOfRound e.limits) (progress_of (session_of e any_missing v finished)) w)) (sym (open_over old e any_missing over finished o l))
+    (subst (λ (v : Option Cause). BreaksBy result
+    (Breaks (IsTurnOfRound e.limits) (progress_of (session_of e any_missing v finished)) w))
+    (sym (open_over old e any_missing over finished o l))
     (subst (λ (y : Result Unit Stop). BreaksBy y (Breaks (IsTurnOfRound e.limits) (progress_of (session_of e any_missing None finished)) w)) (sym r)
     (told_answer ea p before after w _ cause (round_breaks e ea any_missing before after w there a) k)))
 
@@ -201,7 +218,9 @@ end_breaks old mid out0 out1 out2 reported0 reported1 x f h = λ o m out message
         output = (
           (h.1).front,
           (h.1).holds
-              ∙ ap (λ (v : Option (List ℕ)). with_bytes v (h.1).front) ((f.0).output ∙ ap (λ (v : Option (List ℕ)). with_bytes v (p.so_far).output) a ∙ with_bytes-append out o (p.so_far).output)
+              ∙ ap (λ (v : Option (List ℕ)). with_bytes v (h.1).front)
+              ((f.0).output ∙ ap (λ (v : Option (List ℕ)). with_bytes v (p.so_far).output) a
+              ∙ with_bytes-append out o (p.so_far).output)
               ∙ with_bytes-append out (o ++ (p.so_far).output) (h.1).front,
         );
         messages = (
@@ -218,7 +237,8 @@ end_breaks old mid out0 out1 out2 reported0 reported1 x f h = λ o m out message
 -- ---- a source
 
 -- one that could not be opened
-missing_breaks : (old new : SessionState) (name : List ℕ) (w : Contents) → IsOpen old → w.out_new ≡ w.out_old → HasBegun w.messages_old w.messages_new (cannot_open name) → Breaks (IsStepOf old.limits (Unopened name)) (progress_of old) w
+missing_breaks : (old new : SessionState) (name : List ℕ) (w : Contents) → IsOpen old → w.out_new ≡ w.out_old
+    → HasBegun w.messages_old w.messages_new (cannot_open name) → Breaks (IsStepOf old.limits (Unopened name)) (progress_of old) w
 missing_breaks old new name w l e h = λ o m out messages f g.
     let p : Progress = preceded o m (progress_of old) in (
       p.so_far,
@@ -240,7 +260,9 @@ missing_breaks old new name w l e h = λ o m out messages f g.
       },
     )
 
-missing_told : (old new : SessionState) (name : List ℕ) (w : Contents) (r : Result Unit Stop) → IsOpen old → w.out_new ≡ w.out_old → MissingGives name old new w.messages_old w.messages_new r → BreaksBy r (Breaks (IsStepOf old.limits (Unopened name)) (progress_of old) w)
+missing_told : (old new : SessionState) (name : List ℕ) (w : Contents) (r : Result Unit Stop) → IsOpen old
+    → w.out_new ≡ w.out_old → MissingGives name old new w.messages_old w.messages_new r
+    → BreaksBy r (Breaks (IsStepOf old.limits (Unopened name)) (progress_of old) w)
 missing_told old new name w (Err (stops.Ended causes.Write)) l e h = missing_breaks old new name w l e h.1
 missing_told old new name w (Err (stops.Ended causes.OutOfMemory)) l e h = absurd h
 missing_told old new name w (Ok done) l e h = tt
@@ -262,7 +284,8 @@ pub unopened_told : {R : Type 0} (script : R → Option Script) (old new : Sessi
     → BreaksBy r (Breaks (IsStepOf old.limits s) (progress_of old) w)
 unopened_told script old new name first after w r s f l t o h =
     let k : DescribesSource script (sources.Unopened name) after s = subst (λ x. DescribesSource script x after s) f t in
-    subst (λ (s : Source). BreaksBy r (Breaks (IsStepOf old.limits s) (progress_of old) w)) (unopened_is script name after s k) (missing_told old new name w r l o h)
+    subst (λ (s : Source). BreaksBy r (Breaks (IsStepOf old.limits s) (progress_of old) w))
+    (unopened_is script name after s k) (missing_told old new name w r l o h)
 
 -- one that was opened
 pub opened_told : {R : Type 0} (script : R → Option Script) (old : SessionState) (name : List ℕ) (before later : R)
@@ -271,7 +294,9 @@ pub opened_told : {R : Type 0} (script : R → Option Script) (old : SessionStat
     → BreaksBy r (FileBreaks old.limits (progress_of old) name (script before) (script later) w)
     → BreaksBy r (Breaks (IsStepOf old.limits s) (progress_of old) w)
 opened_told script old name before later first after w r s f b t h =
-    let k : DescribesSource script (sources.Opened name before) (sources.Opened name later) s = subst (λ x. DescribesSource script x (sources.Opened name later) s) f (subst (λ x. DescribesSource script first x s) b t) in
+    let k : DescribesSource script (sources.Opened name before) (sources.Opened name later) s =
+    subst (λ x. DescribesSource script x (sources.Opened name later) s) f
+    (subst (λ x. DescribesSource script first x s) b t) in
     let u : Suits name (script before) (script later) s = described_suit script name before (sources.Opened name later) s k in
     by_answer r (so_of name (script before) (script later) s (λ x. Unit) (λ s. Breaks (IsStepOf old.limits s) (progress_of old) w) u) h
   where
@@ -286,7 +311,8 @@ pub unread_told : {R : Type 0} (script : R → Option Script) (old : SessionStat
     → IsOpen old → DescribesSource script first (sources.Opened name reader) s → w.out_new ≡ w.out_old
     → w.messages_new ≡ w.messages_old → BreaksBy r (Breaks (IsStepOf old.limits s) (progress_of old) w)
 unread_told script old name reader first w r s f l t h i =
-    let k : DescribesSource script (sources.Opened name reader) (sources.Opened name reader) s = subst (λ x. DescribesSource script x (sources.Opened name reader) s) f t in
+    let k : DescribesSource script (sources.Opened name reader) (sources.Opened name reader) s =
+    subst (λ x. DescribesSource script x (sources.Opened name reader) s) f t in
     let u = described_suit script name reader (sources.Opened name reader) s k [] true (none_taken (script reader)) (λ e. absurd (not_so e)) in
     any_breaks r _ (subst (λ (s : Source). Breaks (IsStepOf old.limits s) (progress_of old) w) (sym u.2) (silent_source old name u.0 w l h i))
   where
@@ -313,13 +339,19 @@ end_step ss old mid out0 out1 out2 reported0 reported1 reported2 f h = λ o m ou
     ((f.0).output ∙ ap (λ (v : Option (List ℕ)). with_bytes v (p.so_far).output) a ∙ with_bytes-append out o (p.so_far).output)
     ((f.0).messages ∙ ap (λ (v : Option (List ℕ)). with_bytes v (p.so_far).messages) b ∙ with_bytes-append messages m (p.so_far).messages) in
     let same : preceded x y (progress_of mid) ≡ after_sources old.limits ss (preceded o m (progress_of old)) =
-    sym (written_after o m p (progress_of mid) (f.0).progress) ∙ sym (sources_after o m old.limits ss (progress_of old)) in
-    (k.0, k.1, inr (subst (λ (l : Limits). InEnd l (after_sources old.limits ss (preceded o m (progress_of old))) k.0 k.1) (f.0).limits (subst (λ (q : Progress). InEnd mid.limits q k.0 k.1) same k.2)), k.3)
+    sym (written_after o m p (progress_of mid) (f.0).progress) ∙ sym (sources_after o m old.limits ss (progress_of old)) in (
+      k.0,
+      k.1,
+      inr (subst (λ (l : Limits). InEnd l (after_sources old.limits ss (preceded o m (progress_of old))) k.0
+          k.1) (f.0).limits (subst (λ (q : Progress). InEnd mid.limits q k.0 k.1) same k.2)),
+      k.3,
+    )
 
 -- ---- a whole run
 
 -- no message was written
-pub never_told : (cause : Cause) (o : Options) (start : Start) (ss : List Source) (w : Contents) → w.messages_new ≡ w.messages_old → InOrderBy cause o start ss w
+pub never_told : (cause : Cause) (o : Options) (start : Start) (ss : List Source) (w : Contents)
+    → w.messages_new ≡ w.messages_old → InOrderBy cause o start ss w
 never_told causes.Write o start ss w h = inl h
 never_told causes.OutOfMemory o start ss w h = inl h
 never_told cause o start ss w h = tt
@@ -330,7 +362,8 @@ start_told : (o : Options) (start : Start) (ss : List Source) (s : SessionState)
     → Breaks (IsStepOfRun s.limits ss) (progress_of s) (writers out1 out2 reported0 reported1)
     → InOrder (limits_of o) ss (begun start) (writers out0 out2 reported0 reported1)
 start_told o start ss s out0 out1 out2 reported0 reported1 b h =
-    let k = subst (λ (y : SessionState). Breaks (IsStepOfRun y.limits ss) (progress_of y) (writers out1 out2 reported0 reported1)) b.3 h b.1 [] out0 reported0 b.4 (with_bytes-nil reported0) in
+    let k = subst (λ (y : SessionState). Breaks (IsStepOfRun y.limits ss) (progress_of y)
+    (writers out1 out2 reported0 reported1)) b.3 h b.1 [] out0 reported0 b.4 (with_bytes-nil reported0) in
     inr (
       k.0,
       k.1,
@@ -339,7 +372,9 @@ start_told o start ss s out0 out1 out2 reported0 reported1 b h =
       k.3,
     )
 
-ended_told : (o : Options) (start : Start) (ss : List Source) (w : Contents) (P : Type 0) (status : ℕ) (r : Result Bool Stop) → (P → InOrder (limits_of o) ss (begun start) w) → BreaksBy r P → InOrderBy (ending_by status r).cause o start ss w
+ended_told : (o : Options) (start : Start) (ss : List Source) (w : Contents) (P : Type 0) (status : ℕ)
+    (r : Result Bool Stop) → (P → InOrder (limits_of o) ss (begun start) w) → BreaksBy r P
+    → InOrderBy (ending_by status r).cause o start ss w
 ended_told o start ss w P status (Err (stops.Ended causes.Write)) f h = f h
 ended_told o start ss w P status (Err (stops.Ended causes.OutOfMemory)) f h = f h
 ended_told o start ss w P status (Ok wrapped) f h = tt

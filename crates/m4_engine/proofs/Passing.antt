@@ -1,5 +1,5 @@
 -- Passing: tokens that are text are put where they go at once as turns would put them there.
-use Rattle.std.specs.Prelude.{if◌then◌else◌, ◌||◌}
+use Rattle.std.specs.Prelude.{◌||◌}
 use Rattle.std.specs.Cmp.{int_cmp_total, tied_itself}
 use Rattle.std.specs.Ordering.{int_cmp}
 use Rattle.std.specs.FinMap.{put}
@@ -70,17 +70,21 @@ text_moves e p t n d h = λ z more c o m.
     ∙ (rw (append_assoc o e.output (issued (e.state).current t)) refl)
 
 -- and so it puts a plain token
-plain_moves : (e : Engine) (p : Pending) (n : ℕ) → p.definition ≡ None → IsPlain e.state p.may_follow n (text_of p) → Moves p.may_follow (with_output (take n (text_of p)) (at_top e)) (consumed n p) turns.GoesOn (λ z more o m. moved (configuration o m (at_top e) (longer z more p)))
+plain_moves : (e : Engine) (p : Pending) (n : ℕ) → p.definition ≡ None → IsPlain e.state p.may_follow n (text_of p)
+    → Moves p.may_follow (with_output (take n (text_of p)) (at_top e)) (consumed n p) turns.GoesOn
+    (λ z more o m. moved (configuration o m (at_top e) (longer z more p)))
 plain_moves e p n d (inl h) = text_moves e p (take n (text_of p)) n d h
 plain_moves e p n d (inr h) = λ z more c o m.
-    ap (λ v. take_turn Expansion Kept Ended turn join [] (take_front v (here_of o m (at_top e) (longer z more p)))) (found_longer (e.state).quotes (e.state).comments p (Byte h.0) n z more d h.1 c)
+    ap (λ v. take_turn Expansion Kept Ended turn join [] (take_front v (here_of o m (at_top e) (longer z more p))))
+    (found_longer (e.state).quotes (e.state).comments p (Byte h.0) n z more d h.1 c)
     ∙ (rw (append_assoc o e.output (issued (e.state).current (h.0 ∷ []))) refl)
     ∙ ap (λ (x : List ℕ). Goes (configuration o m (with_output x (at_top e)) (longer z more (consumed n p)))) (sym h.2)
 
 pub consumed_none : (p : Pending) → p.definition ≡ None → consumed 0 p ≡ p
 consumed_none p d =
     let none : 0 - length p.pushed ≡ 0 = omega arith in
-    ap (λ m. let q : Pending = record p { definition = None; unread = drop m p.unread; newlines = counted p.newlines (newlines_in (take m p.unread)) } in q) none
+    ap (λ m. let q : Pending = record p
+    { definition = None; unread = drop m p.unread; newlines = counted p.newlines (newlines_in (take m p.unread)) } in q) none
     ∙ ap (λ m. let q : Pending = record p { definition = None; newlines = m } in q) (counted_none p.newlines)
     ∙ ap (λ (o : Option Def). let q : Pending = record p { definition = o } in q) (sym d)
 
@@ -93,14 +97,22 @@ pub record Reaches (e : Engine) (p : Pending) (e1 : Engine) (p1 : Pending) : Typ
 pub nothing_reaches : (e : Engine) (p : Pending) → Reaches e p e p
 nothing_reaches e p = record { comes = λ z more c o m. ([], refl); turns = omega arith }
 
-pub move_reaches : (e e1 e2 : Engine) (p p1 p2 : Pending) → p1.may_follow ≡ p.may_follow → Moves p.may_follow e1 p1 turns.GoesOn (λ z more o m. moved (configuration o m e (longer z more p))) → Reaches e1 p1 e2 p2 → Reaches e p e2 p2
+pub move_reaches : (e e1 e2 : Engine) (p p1 p2 : Pending) → p1.may_follow ≡ p.may_follow
+    → Moves p.may_follow e1 p1 turns.GoesOn (λ z more o m. moved (configuration o m e (longer z more p)))
+    → Reaches e1 p1 e2 p2 → Reaches e p e2 p2
 move_reaches e e1 e2 p p1 p2 k h r =
     let f : turns_of e1 p1 < turns_of e p = turn_falls e e1 p p1 k h in
     let g : turns_of e2 p2 ≤ turns_of e1 p1 = r.turns in
     record {
       comes = λ z more c o m.
-          let rest = r.comes z more (subst (λ v. MayFollow v z more) (sym k) c) o m in
-          (configuration o m e (longer z more p) ∷ rest.0, (refl, subst (λ (x : Next). Comes rest.0 x (Goes (configuration o m e2 (longer z more p2)))) (sym (h z more c o m)) rest.1));
+          let rest = r.comes z more (subst (λ v. MayFollow v z more) (sym k) c) o m in (
+            configuration o m e (longer z more p) ∷ rest.0,
+            (
+              refl,
+              subst (λ (x : Next). Comes rest.0 x (Goes (configuration o m e2 (longer z more p2))))
+                  (sym (h z more c o m)) rest.1,
+            ),
+          );
       turns = omega arith;
     }
 
@@ -112,8 +124,11 @@ both_reach e e1 e2 p p1 p2 f a b =
     record {
       comes = λ z more c o m.
           let first = a.comes z more c o m in
-          let later = b.comes z more (subst (λ (v : Bool). MayFollow v z more) (sym f) c) o m in
-          (first.0 ++ later.0, on_from first.0 later.0 (Goes (configuration o m e (longer z more p))) (Goes (configuration o m e1 (longer z more p1))) (Goes (configuration o m e2 (longer z more p2))) first.1 later.1);
+          let later = b.comes z more (subst (λ (v : Bool). MayFollow v z more) (sym f) c) o m in (
+            first.0 ++ later.0,
+            on_from first.0 later.0 (Goes (configuration o m e (longer z more p)))
+                (Goes (configuration o m e1 (longer z more p1))) (Goes (configuration o m e2 (longer z more p2))) first.1 later.1,
+          );
       turns = omega arith;
     }
 
@@ -145,7 +160,11 @@ with_text-twice n (x ∷ a) (y ∷ b) ds =
 appended-twice : (s : State) (a b : List ℕ) → appended (appended s a) b ≡ appended s (a ++ b)
 appended-twice s a b = by (holds_text s.current)
   where
-    by : (h : Bool) → record s { diversions = cond h (with_text (cond h (with_text s.diversions s.current a) s.diversions) s.current b) (cond h (with_text s.diversions s.current a) s.diversions) }
+    by : (h : Bool) → record s {
+      diversions =
+          cond h (with_text (cond h (with_text s.diversions s.current a) s.diversions) s.current b)
+          (cond h (with_text s.diversions s.current a) s.diversions);
+    }
         ≡ record s { diversions = cond h (with_text s.diversions s.current (a ++ b)) s.diversions }
     by true = ap (λ (ds : List Diversion). record s { diversions = ds }) (with_text-twice s.current a b s.diversions)
     by false = refl
@@ -171,20 +190,19 @@ pub put_twice : (x y : List ℕ) (e : Engine) → with_output y (with_output x e
 put_twice x y e =
     let n = (e.state).current in
     ap (λ (s : State). let d : Engine = record e { state = s; output = (e.output ++ issued n x) ++ issued n y } in d) (appended-twice e.state x y)
-    ∙ ap (λ (o : List ℕ). let d : Engine = record e { state = appended e.state (x ++ y); output = o } in d) (append_assoc e.output (issued n x) (issued n y) ∙ ap (λ (v : List ℕ). e.output ++ v) (issued-twice n x y))
+    ∙ ap (λ (o : List ℕ). let d : Engine = record e { state = appended e.state (x ++ y); output = o } in d)
+    (append_assoc e.output (issued n x) (issued n y) ∙ ap (λ (v : List ℕ). e.output ++ v) (issued-twice n x y))
 
 none_put : (e : Engine) → with_output [] e ≡ e
 none_put e =
     ap (λ (s : State). let d : Engine = record e { state = s; output = e.output ++ issued (e.state).current [] } in d) (appended-none e.state)
-    ∙ ap (λ (o : List ℕ). let d : Engine = record e { output = o } in d) (ap (λ (v : List ℕ). e.output ++ v) (issued-none (e.state).current) ∙ append-nil e.output)
-
--- outside of diversions it is output alone
-output_put : (e : Engine) (x : List ℕ) → (e.state).current ≡ pos 0 → with_output x e ≡ record e { output = e.output ++ x }
-output_put e x h =
-    ap (λ (n : ℤ). let d : Engine = record e { state = record e.state { diversions = if holds_text n then with_text (e.state).diversions n x else (e.state).diversions }; output = e.output ++ issued n x } in d) h
+    ∙ ap (λ (o : List ℕ). let d : Engine = record e { output = o } in d)
+    (ap (λ (v : List ℕ). e.output ++ v) (issued-none (e.state).current) ∙ append-nil e.output)
 
 -- the text of a token and of those after it
-both_put : (n k : ℕ) (e : Engine) (p : Pending) → with_output (take k (text_of (consumed n p))) (with_output (take n (text_of p)) e) ≡ with_output (take (n + k) (text_of p)) e
+both_put : (n k : ℕ) (e : Engine) (p : Pending)
+    → with_output (take k (text_of (consumed n p))) (with_output (take n (text_of p)) e)
+    ≡ with_output (take (n + k) (text_of p)) e
 both_put n k e p =
     ap (λ (x : List ℕ). with_output (take k x) (with_output (take n (text_of p)) e)) (sym (drop_parts n p.pushed p.unread))
     ∙ put_twice (take n (text_of p)) (take k (drop n (text_of p))) e
@@ -195,16 +213,21 @@ plain_kept : (s : State) (t : List ℕ) (m : Bool) (lens x : List ℕ) → ArePl
 plain_kept s t m [] x h = tt
 plain_kept s t m (n ∷ lens) x h = (h.0, plain_kept s t m lens (drop n x) h.1)
 
-run_reaches : (lens : List ℕ) (e : Engine) (p : Pending) → p.definition ≡ None → ArePlain e.state p.may_follow lens (text_of p) → Reaches (at_top e) p (with_output (take (total lens) (text_of p)) (at_top e)) (consumed (total lens) p)
+run_reaches : (lens : List ℕ) (e : Engine) (p : Pending) → p.definition ≡ None
+    → ArePlain e.state p.may_follow lens (text_of p)
+    → Reaches (at_top e) p (with_output (take (total lens) (text_of p)) (at_top e)) (consumed (total lens) p)
 run_reaches [] e p d h =
     subst (λ (q : Pending). Reaches (at_top e) p (with_output [] (at_top e)) q) (sym (consumed_none p d))
     (subst (λ (x : Engine). Reaches (at_top e) p x p) (sym (none_put (at_top e))) (nothing_reaches (at_top e) p))
 run_reaches (n ∷ lens) e p d h =
     let e1 : Engine = with_output (take n (text_of p)) e in
-    let r = run_reaches lens e1 (consumed n p) refl (plain_kept e.state (take n (text_of p)) p.may_follow lens (text_of (consumed n p)) (subst (ArePlain e.state p.may_follow lens) (drop_parts n p.pushed p.unread) h.1)) in
+    let r = run_reaches lens e1 (consumed n p) refl
+    (plain_kept e.state (take n (text_of p)) p.may_follow lens (text_of (consumed n p))
+    (subst (ArePlain e.state p.may_follow lens) (drop_parts n p.pushed p.unread) h.1)) in
     move_reaches (at_top e) (at_top e1) _ p (consumed n p) _ refl (plain_moves e p n d h.0)
     (subst (λ (x : Engine). Reaches (at_top e1) (consumed n p) x (consumed (n + total lens) p)) (both_put n (total lens) (at_top e) p)
-    (subst (λ (q : Pending). Reaches (at_top e1) (consumed n p) (with_output (take (total lens) (text_of (consumed n p))) (at_top e1)) q) (consumed_twice n (total lens) p) r))
+    (subst (λ (q : Pending). Reaches (at_top e1) (consumed n p)
+    (with_output (take (total lens) (text_of (consumed n p))) (at_top e1)) q) (consumed_twice n (total lens) p) r))
 
 -- the engine is at its top where it says so
 top_is : (e : Engine) → e.open_calls ≡ [] → at_top e ≡ e
@@ -213,7 +236,8 @@ top_is e h = ap (λ (x : List Call). let d : Engine = record e { open_calls = x 
 plain_reaches : (e e1 : Engine) (i i1 : Held) → PassesPlain e e1 i i1 → Reaches e i.pending e1 i1.pending
 plain_reaches e e1 i i1 h =
     let t = run_reaches h.lens e i.pending h.first h.plain in
-    let x = subst (λ (d : Engine). Reaches d i.pending (with_output (take (total h.lens) (text_of i.pending)) d) (consumed (total h.lens) i.pending)) (top_is e h.outside) t in
+    let x = subst (λ (d : Engine). Reaches d i.pending (with_output (take (total h.lens) (text_of i.pending)) d)
+    (consumed (total h.lens) i.pending)) (top_is e h.outside) t in
     subst (λ (d : Engine). Reaches e i.pending d i1.pending) (sym h.engine)
     (subst (λ (j : Held). Reaches e i.pending (with_output (take (total h.lens) (text_of i.pending)) e) j.pending) (sym h.input) x)
 
@@ -228,7 +252,8 @@ token_reaches e e1 i i1 h =
     let there : IsText mid.state q.may_follow h.len h.text (text_of q) =
     subst (λ (y : List ℕ). IsText e.state p.may_follow h.len h.text y) (drop_parts n p.pushed p.unread) h.found in
     let last : Reaches mid q (with_output h.text mid) (consumed h.len q) =
-    move_reaches mid (with_output h.text mid) (with_output h.text mid) q (consumed h.len q) (consumed h.len q) refl (text_moves mid q h.text h.len refl there) (nothing_reaches (with_output h.text mid) (consumed h.len q)) in
+    move_reaches mid (with_output h.text mid) (with_output h.text mid) q (consumed h.len q) (consumed h.len q) refl
+    (text_moves mid q h.text h.len refl there) (nothing_reaches (with_output h.text mid) (consumed h.len q)) in
     let all : Reaches (at_top e) p (with_output h.text mid) (consumed (n + h.len) p) =
     subst (λ (r : Pending). Reaches (at_top e) p (with_output h.text mid) r) (consumed_twice n h.len p)
     (both_reach (at_top e) mid (with_output h.text mid) p q (consumed h.len q) refl (run_reaches h.lens e p h.first h.plain) last) in
@@ -238,7 +263,9 @@ token_reaches e e1 i i1 h =
     (subst (λ (j : Held). Reaches e p (with_output h.text (with_output x e)) j.pending) (sym h.input) same)
 
 -- the first bytes of a text that is in front of an input were passed
-pub passes_text : (old new : Engine) (i j : Held) (m : Bool) (n : ℕ) (x : List ℕ) → IsInFront i.pending x m → (i.pending).definition ≡ None → n ≤ length x → PassesText m n x old new → j ≡ record i { pending = consumed n i.pending } → PassesOnce old new i j
+pub passes_text : (old new : Engine) (i j : Held) (m : Bool) (n : ℕ) (x : List ℕ) → IsInFront i.pending x m
+    → (i.pending).definition ≡ None → n ≤ length x → PassesText m n x old new
+    → j ≡ record i { pending = consumed n i.pending } → PassesOnce old new i j
 passes_text old new i j m n x h f k (inl r) g =
     let run = plain_front old.state i.pending m n x h r.0 in
     inr (inl (record {
@@ -246,7 +273,8 @@ passes_text old new i j m n x h f k (inl r) g =
       plain = run.1;
       outside = r.1;
       first = f;
-      engine = r.2 ∙ ap (λ (y : List ℕ). put_in [] y old) (sym (take_in_front i.pending m n x h k)) ∙ ap (λ k. put_in [] (take k (text_of i.pending)) old) (sym run.2);
+      engine = r.2 ∙ ap (λ (y : List ℕ). put_in [] y old) (sym (take_in_front i.pending m n x h k))
+          ∙ ap (λ k. put_in [] (take k (text_of i.pending)) old) (sym run.2);
       input = g ∙ ap (λ k. let v : Held = record i { pending = consumed k i.pending } in v) (sym run.2);
     }))
 passes_text old new i j m n x h f k (inr (inl r)) g =
@@ -279,22 +307,6 @@ passes_text old new i j m n x h f k (inr (inr r)) g =
       input = g ∙ ap (λ v. let w : Held = record i { pending = consumed v i.pending } in w) (r.5 ∙ ap (λ v. v + r.2) (sym run.2));
     })))
 
--- outside of diversions text goes to the output
-pub output_is : (e : Engine) (x y : List ℕ) → (e.state).current ≡ pos 0 → y ≡ e.output ++ x → record e { output = y } ≡ put_in [] x e
-output_is e x y u h = ap (λ (o : List ℕ). let d : Engine = record e { output = o } in d) h ∙ sym (output_put e x u)
-
--- where text is diverted, it goes to the diversion, or nowhere
-not_issued : (n : ℤ) (x : List ℕ) → (n ≡ pos 0 → ⊥) → issued n x ≡ []
-not_issued (pos zero) x h = absurd (h refl)
-not_issued (pos (suc n)) x h = refl
-not_issued (negsuc n) x h = refl
-
-pub diversion_is : (e : Engine) (x : List ℕ) (s : State) → ((e.state).current ≡ pos 0 → ⊥) → s ≡ appended e.state x → record e { state = s } ≡ put_in [] x e
-diversion_is e x s u h =
-    ap (λ (t : State). let d : Engine = record e { state = t } in d) h
-    ∙ ap (λ (o : List ℕ). let d : Engine = record e { state = appended e.state x; output = o } in d) (sym (append-nil e.output))
-    ∙ ap (λ (o : List ℕ). let d : Engine = record e { state = appended e.state x; output = e.output ++ o } in d) (sym (not_issued (e.state).current x u))
-
 -- an engine within a list
 abbrev at_call : Call → List Call → Engine → Engine
 at_call c cs e = record e { open_calls = c ∷ cs }
@@ -310,10 +322,15 @@ list_turn c d cs e p n f (inl h) z more k o m =
     ∙ (rw (append-nil (o ++ e.output)) refl)
     ∙ ap (λ (a : Call). Goes (configuration o m (at_call a cs e) (longer z more (consumed n p)))) (sym h.2)
 list_turn c d cs e p n f (inr h) z more k o m =
-    ap (λ v. take_turn Expansion Kept Ended turn join (outer_of (c ∷ cs)) (take_front v (here_of o m (at_call c cs e) (longer z more p)))) (found_longer (e.state).quotes (e.state).comments p (Byte h.0) n z more f h.1 k)
-    ∙ ap (λ v. take_turn Expansion Kept Ended turn join (outer_of (c ∷ cs)) v) (h.2 (reading (longer z more (consumed n p)) (here_of o m (at_call c cs e) (longer z more p))) refl)
+    ap (λ v. take_turn Expansion Kept Ended turn join (outer_of (c ∷ cs))
+    (take_front v (here_of o m (at_call c cs e) (longer z more p))))
+    (found_longer (e.state).quotes (e.state).comments p (Byte h.0) n z more f h.1 k)
+    ∙ ap (λ v. take_turn Expansion Kept Ended turn join (outer_of (c ∷ cs)) v)
+    (h.2 (reading (longer z more (consumed n p)) (here_of o m (at_call c cs e) (longer z more p))) refl)
 
-list_reaches : (ts : List (ℕ × Call)) (c d : Call) (cs : List Call) (e : Engine) (p : Pending) → p.definition ≡ None → AreListTokens e.state p.may_follow ts c d (text_of p) → Reaches (at_call c cs e) p (at_call d cs e) (consumed (bytes_in ts) p)
+list_reaches : (ts : List (ℕ × Call)) (c d : Call) (cs : List Call) (e : Engine) (p : Pending) → p.definition ≡ None
+    → AreListTokens e.state p.may_follow ts c d (text_of p)
+    → Reaches (at_call c cs e) p (at_call d cs e) (consumed (bytes_in ts) p)
 list_reaches [] c d cs e p f h =
     subst (λ (q : Pending). Reaches (at_call c cs e) p (at_call d cs e) q) (sym (consumed_none p f))
     (subst (λ (a : Call). Reaches (at_call c cs e) p (at_call a cs e) p) (sym h) (nothing_reaches (at_call c cs e) p))
@@ -336,7 +353,8 @@ inner_reaches e e1 i i1 h =
 -- where a list is open, its tokens were collected
 once_reaches : (e e1 : Engine) (i i1 : Held) → PassesOnce e e1 i i1 → Reaches e i.pending e1 i1.pending
 once_reaches e e1 i i1 (inl h) =
-    subst (λ (d : Engine). Reaches e i.pending d i1.pending) (sym h.0) (subst (λ (j : Held). Reaches e i.pending e j.pending) (sym h.1) (nothing_reaches e i.pending))
+    subst (λ (d : Engine). Reaches e i.pending d i1.pending) (sym h.0)
+    (subst (λ (j : Held). Reaches e i.pending e j.pending) (sym h.1) (nothing_reaches e i.pending))
 once_reaches e e1 i i1 (inr (inl h)) = plain_reaches e e1 i i1 h
 once_reaches e e1 i i1 (inr (inr (inl h))) = inner_reaches e e1 i i1 h
 once_reaches e e1 i i1 (inr (inr (inr h))) = token_reaches e e1 i i1 h
@@ -367,7 +385,8 @@ once_messages e e1 i i1 (inr (inr (inr h))) = ap (λ (d : Engine). d.messages) h
 
 reach : (ss : List (Engine × Held)) (e e1 : Engine) (i i1 : Held) → ArePasses ss e e1 i i1 → Reaches e i.pending e1 i1.pending
 reach [] e e1 i i1 h =
-    subst (λ (d : Engine). Reaches e i.pending d i1.pending) (sym h.0) (subst (λ (j : Held). Reaches e i.pending e j.pending) (sym h.1) (nothing_reaches e i.pending))
+    subst (λ (d : Engine). Reaches e i.pending d i1.pending) (sym h.0)
+    (subst (λ (j : Held). Reaches e i.pending e j.pending) (sym h.1) (nothing_reaches e i.pending))
 reach (s ∷ ss) e e1 i i1 h =
     both_reach e s.0 e1 i.pending (s.1).pending i1.pending (once_follows e s.0 i s.1 h.0) (once_reaches e s.0 i s.1 h.0) (reach ss s.0 e1 s.1 i1 h.1)
 
@@ -417,7 +436,8 @@ IsFurther k looked p q =
     (k ≤ length (text_of q))
     × ((length (text_of q) < length (text_of p)) ⊎ ((length (text_of q) ≡ length (text_of p)) × (looked < k)))
 
-pub measure_less : (looked k : ℕ) (p q : Pending) → looked ≤ length (text_of p) → IsFurther k looked p q → measure (length (text_of q)) k < measure (length (text_of p)) looked
+pub measure_less : (looked k : ℕ) (p q : Pending) → looked ≤ length (text_of p) → IsFurther k looked p q
+    → measure (length (text_of q)) k < measure (length (text_of p)) looked
 measure_less looked k p q l e = measure_falls (length (text_of q)) (length (text_of p)) looked k l e.0 e.1
 
 -- a pass over a text in front of an input

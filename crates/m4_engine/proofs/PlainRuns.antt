@@ -13,7 +13,8 @@ use Rattle.m4_engine.specs.Collected.{IsText, IsLone}
 use Rattle.m4_engine.specs.Plain.{IsPlain, total, ArePlain, IsPlainRun}
 
 -- tokens, and those after them
-joined : (s : State) (o : Bool) (lens more x : List ℕ) → ArePlain s o lens x → ArePlain s o more (drop (total lens) x) → ArePlain s o (lens ++ more) x × (total (lens ++ more) ≡ total lens + total more)
+joined : (s : State) (o : Bool) (lens more x : List ℕ) → ArePlain s o lens x → ArePlain s o more (drop (total lens) x)
+    → ArePlain s o (lens ++ more) x × (total (lens ++ more) ≡ total lens + total more)
 joined s o [] more x a b = let none : total more ≡ 0 + total more = omega arith in (b, none)
 joined s o (n ∷ lens) more x a b =
     let r = joined s o lens more (drop n x) a.1 (subst (ArePlain s o more) (sym (drop-drop (total lens) n x)) b) in
@@ -38,7 +39,8 @@ pub plain_byte : (s : State) (o : Bool) (b : ℕ) (x : List ℕ) → scan s.quot
 plain_byte s o b x h = plain_one s o 1 x (inr (b, h, ap (take 1) (byte_first s.quotes s.comments o x b 1 h)))
 
 -- a space more
-pub plain_space : (s : State) (o : Bool) (k : ℕ) (x y : List ℕ) → IsPlainRun s o k x → y ≡ drop k x → y ≡ 32 ∷ drop 1 y → IsLone s.quotes s.comments 32 → IsPlainRun s o (k + 1) x
+pub plain_space : (s : State) (o : Bool) (k : ℕ) (x y : List ℕ) → IsPlainRun s o k x → y ≡ drop k x → y ≡ 32 ∷ drop 1 y
+    → IsLone s.quotes s.comments 32 → IsPlainRun s o (k + 1) x
 plain_space s o k x y r e h b =
     plain_on s o k 1 x y r e (plain_byte s o 32 y (subst (λ (z : List ℕ). scan s.quotes s.comments o z ≡ Found (Byte 32) 1) (sym h) (b o (drop 1 y))))
 

@@ -51,16 +51,21 @@ module _ (o m : List ℕ) (limits : Limits) where
       let n : r.calls ≡ 0 + r.calls = omega arith in
       ap (λ (k : ℕ). record (so_far_after o m r) { calls = k }) n
 
-  ended_front : (r : RunSoFar) (p : Pending) → settled_ended (expand_input limits (so_far_after o m r) p) ≡ in_front o m (settled_ended (expand_input limits r p))
+  ended_front : (r : RunSoFar) (p : Pending)
+      → settled_ended (expand_input limits (so_far_after o m r) p) ≡ in_front o m (settled_ended (expand_input limits r p))
   ended_front r p =
       ap (λ (x : RunSoFar). settled_ended (expand_input limits x p)) (B_is r)
-      ∙ by_end (input_after o m 0 limits.calls limits.calls limits.nesting limits.nesting room (λ k h. h) (λ h. ⊥) (inr (refl, refl)) (inr refl) (λ h x. absurd x) r p)
+      ∙ by_end (input_after o m 0 limits.calls limits.calls limits.nesting limits.nesting room (λ k h. h) (λ h. ⊥)
+      (inr (refl, refl)) (inr refl) (λ h x. absurd x) r p)
     where
-      by_end : ⊥ ⊎ (expand_input limits (B r) p ≡ record { so_far = B (expand_input limits r p).so_far; reason = (expand_input limits r p).reason }) → settled_ended (expand_input limits (B r) p) ≡ in_front o m (settled_ended (expand_input limits r p))
+      by_end : ⊥ ⊎ (expand_input limits (B r) p
+          ≡ record { so_far = B (expand_input limits r p).so_far; reason = (expand_input limits r p).reason })
+          → settled_ended (expand_input limits (B r) p) ≡ in_front o m (settled_ended (expand_input limits r p))
       by_end (inl x) = absurd x
       by_end (inr h) = ap settled_ended h
 
-  settled_front : (h : Option EndReason) (r : RunSoFar) (name x : List ℕ) → settled_by h limits (so_far_after o m r) name x ≡ in_front o m (settled_by h limits r name x)
+  settled_front : (h : Option EndReason) (r : RunSoFar) (name x : List ℕ)
+      → settled_by h limits (so_far_after o m r) name x ≡ in_front o m (settled_by h limits r name x)
   settled_front (Some h) r name x = refl
   settled_front None r name x = ended_front r (file_pending name x true)
 
@@ -72,8 +77,10 @@ pub further : (old mid new : Option (List ℕ)) (o x y : List ℕ) → mid ≡ w
 further old mid new o x y e f =
     f ∙ ap (λ (v : Option (List ℕ)). with_bytes v (x ++ y)) e ∙ with_bytes-append old o (x ++ y) ∙ ap (with_bytes old) (sym (append_assoc o x y))
 
-module _ (o m : List ℕ) (out0 out out' reported0 reported reported' : Option (List ℕ)) (e : out ≡ with_bytes out0 o) (h : reported ≡ with_bytes reported0 m) where
-  pub exact_further : (cause : Cause) (s : SettledSoFar) → ExactAtFault cause s (writers out out' reported reported') → ExactAtFault cause (in_front o m s) (writers out0 out' reported0 reported')
+module _ (o m : List ℕ) (out0 out out' reported0 reported reported' : Option (List ℕ)) (e : out ≡ with_bytes out0 o)
+    (h : reported ≡ with_bytes reported0 m) where
+  pub exact_further : (cause : Cause) (s : SettledSoFar) → ExactAtFault cause s (writers out out' reported reported')
+      → ExactAtFault cause (in_front o m s) (writers out0 out' reported0 reported')
   exact_further causes.Read s x = (
     x.0,
     record {
@@ -92,7 +99,9 @@ module _ (o m : List ℕ) (out0 out out' reported0 reported reported' : Option (
   exact_further causes.Write s x = tt
   exact_further causes.OutOfMemory s x = tt
 
-  abbrev pub asked_further : (f g : List ℕ → SettledSoFar) (cause : Cause) (taken : List ℕ) → ((x : List ℕ) → g x ≡ in_front o m (f x)) → AskedAt f cause taken (writers out out' reported reported') → AskedAt g cause taken (writers out0 out' reported0 reported')
+  abbrev pub asked_further : (f g : List ℕ → SettledSoFar) (cause : Cause) (taken : List ℕ)
+      → ((x : List ℕ) → g x ≡ in_front o m (f x)) → AskedAt f cause taken (writers out out' reported reported')
+      → AskedAt g cause taken (writers out0 out' reported0 reported')
   asked_further f g cause taken k a = record {
     asked = a.asked;
     last = a.last;
@@ -114,7 +123,9 @@ module _ (o m : List ℕ) (out0 out out' reported0 reported reported' : Option (
 open_part : (s : SessionState) (name x : List ℕ) → IsOpen s → settled_in s.limits (progress_of s) name x ≡ settled_ended (settled_part s name x)
 open_part s name x l = ap (λ (v : Option Cause). settled_by (how_over v) s.limits (progress_of s).so_far name x) l.over
 
-abbrev asked_so : (s : SessionState) (name x : List ℕ) (w : Contents) (cause : Cause) → IsOpen s → ExactAtFault cause (settled_in s.limits (progress_of s) name x) w → FileAsked s name x w → AskedAt (settled_in s.limits (progress_of s) name) cause x w
+abbrev asked_so : (s : SessionState) (name x : List ℕ) (w : Contents) (cause : Cause) → IsOpen s
+    → ExactAtFault cause (settled_in s.limits (progress_of s) name x) w → FileAsked s name x w
+    → AskedAt (settled_in s.limits (progress_of s) name) cause x w
 asked_so s name x w cause l k a = record {
   asked = a.asked;
   last = a.last;
@@ -126,7 +137,9 @@ asked_so s name x w cause l k a = record {
 }
 
 -- nothing was taken: nothing is settled
-pub none_asked : (s : SessionState) (name o m : List ℕ) (w : Contents) (cause : Cause) → IsOpen s → ExactAtFault cause (settled_in s.limits (progress_of s) name []) w → HasWritten o m w → AskedAt (settled_in s.limits (progress_of s) name) cause [] w
+pub none_asked : (s : SessionState) (name o m : List ℕ) (w : Contents) (cause : Cause) → IsOpen s
+    → ExactAtFault cause (settled_in s.limits (progress_of s) name []) w → HasWritten o m w
+    → AskedAt (settled_in s.limits (progress_of s) name) cause [] w
 none_asked s name o m w cause l k h = asked_so s name [] w cause l k (record {
   asked = [];
   last = [];
@@ -137,7 +150,8 @@ none_asked s name o m w cause l k h = asked_so s name [] w cause l k (record {
 })
 
 -- the reader failed
-abbrev fell_so : (s s' : SessionState) (name : List ℕ) (before after' : Option Script) (w : Contents) → IsOpen s → (f : FileFell name before after' s s' w) → AskedAt (settled_in s.limits (progress_of s) name) causes.Read f.x w
+abbrev fell_so : (s s' : SessionState) (name : List ℕ) (before after' : Option Script) (w : Contents) → IsOpen s
+    → (f : FileFell name before after' s s' w) → AskedAt (settled_in s.limits (progress_of s) name) causes.Read f.x w
 fell_so s s' name before after' w l f =
     asked_so s name f.x w causes.Read l
     (subst (λ (y : SettledSoFar). ExactAtFault causes.Read y w) (sym (open_part s name f.x l)) (f.reason, record { output = f.output; messages = f.messages }))
@@ -171,7 +185,8 @@ over_reason (Ends causes.OutOfMemory) c e = cc
 over_reason NeedsInput c e = cc
 over_reason OutOfBound c e = cc
 
-over_is : (s : SessionState) (name x : List ℕ) → IsOpen s → (after_source s.limits (Opened name x) (progress_of s)).over ≡ over_of (file s.limits (progress_of s).so_far name x).reason
+over_is : (s : SessionState) (name x : List ℕ) → IsOpen s
+    → (after_source s.limits (Opened name x) (progress_of s)).over ≡ over_of (file s.limits (progress_of s).so_far name x).reason
 over_is s name x l = ap (λ (o : Option Cause). (after_source s.limits (Opened name x) (record (progress_of s) { over = how_over o })).over) l.over
 
 -- the file ended the run, whatever the cause, unless a device or an allocation failed
@@ -197,13 +212,15 @@ module _ {R : Type 0} (script : R → Option Script) (name : List ℕ) (before l
     j _ _ _ _ (inl (ap (λ (y : SettledSoFar). y.reason) (open_part old name x l) ∙ e)),
   )
 
-  closed_by : (after_source old.limits (Opened name (x ++ [])) (progress_of old)).over ≡ Some (Ends cause) → (after_source old.limits (Opened name x) (progress_of old)).over ≡ Some (Ends cause)
+  closed_by : (after_source old.limits (Opened name (x ++ [])) (progress_of old)).over ≡ Some (Ends cause)
+      → (after_source old.limits (Opened name x) (progress_of old)).over ≡ Some (Ends cause)
   closed_by e = subst (λ (y : List ℕ). (after_source old.limits (Opened name y) (progress_of old)).over ≡ Some (Ends cause)) (append-nil x) e
 
   at_its_end : IsAtEnd (script later) → Within
   at_its_end a =
       let c = (h.0).so [] (λ e. refl) in
-      let over : (after_source old.limits (Opened name (x ++ [])) (progress_of old)).over ≡ Some (Ends cause) = over_after_it new (after_source old.limits (Opened name (x ++ [])) (progress_of old)) cause c.progress h.1 in
+      let over : (after_source old.limits (Opened name (x ++ [])) (progress_of old)).over ≡ Some (Ends cause) =
+      over_after_it new (after_source old.limits (Opened name (x ++ [])) (progress_of old)) cause c.progress h.1 in
       let so_far = source_is old name (x ++ []) l in
       by_end a over so_far c.output c.messages (input_goes old.limits (progress_of old).so_far name x [])
     where
@@ -249,17 +266,26 @@ pub file_source : {R : Type 0} (script : R → Option Script) (name : List ℕ) 
     → SourceGives script (sources.Opened name before) (sources.Opened name after') old new w r
 file_source script name before after' old new w (Ok done) l h = (Opened name h.0, (refl, refl, h.1, h.2), h.3)
 file_source script name before after' old new w (Err stops.Finished) l h = absurd ((h.0).closed l)
-file_source script name before after' old new w (Err (stops.Ended causes.Read)) l h = (name, h.x, (refl, refl, h.given), fell_so old new name (script before) (script after') w l h, (refl, h.at_fault))
-file_source script name before after' old new w (Err (stops.Ended causes.Write)) l h = (name, (h.0).x, (refl, refl, (h.0).given), asked_so old name (h.0).x w causes.Write l tt (h.0).asked, tt)
-file_source script name before after' old new w (Err (stops.Ended causes.OutOfMemory)) l h = (name, (h.0).x, (refl, refl, (h.0).given), asked_so old name (h.0).x w causes.OutOfMemory l tt (h.0).asked, tt)
+file_source script name before after' old new w (Err (stops.Ended causes.Read)) l h =
+    (name, h.x, (refl, refl, h.given), fell_so old new name (script before) (script after') w l h, (refl, h.at_fault))
+file_source script name before after' old new w (Err (stops.Ended causes.Write)) l h =
+    (name, (h.0).x, (refl, refl, (h.0).given), asked_so old name (h.0).x w causes.Write l tt (h.0).asked, tt)
+file_source script name before after' old new w (Err (stops.Ended causes.OutOfMemory)) l h =
+    (name, (h.0).x, (refl, refl, (h.0).given), asked_so old name (h.0).x w causes.OutOfMemory l tt (h.0).asked, tt)
 file_source script name before after' old new w (Err (stops.Ended causes.Done)) l h = absurd h
 file_source script name before after' old new w (Err (stops.Ended (causes.Frozen f))) l h = absurd h
-file_source script name before after' old new w (Err (stops.Ended (causes.Exited n))) l h = ended_within script name before after' old new w (causes.Exited n) l h (λ x. tt) (λ s a l c e. e)
-file_source script name before after' old new w (Err (stops.Ended causes.EndInString)) l h = ended_within script name before after' old new w causes.EndInString l h (λ x. tt) (λ s a l c e. e)
-file_source script name before after' old new w (Err (stops.Ended causes.EndInComment)) l h = ended_within script name before after' old new w causes.EndInComment l h (λ x. tt) (λ s a l c e. e)
-file_source script name before after' old new w (Err (stops.Ended causes.EndInArguments)) l h = ended_within script name before after' old new w causes.EndInArguments l h (λ x. tt) (λ s a l c e. e)
-file_source script name before after' old new w (Err (stops.Ended causes.ExpansionLimit)) l h = ended_within script name before after' old new w causes.ExpansionLimit l h (λ x. tt) (λ s a l c e. e)
-file_source script name before after' old new w (Err (stops.Ended causes.NestingLimit)) l h = ended_within script name before after' old new w causes.NestingLimit l h (λ x. tt) (λ s a l c e. e)
+file_source script name before after' old new w (Err (stops.Ended (causes.Exited n))) l h =
+    ended_within script name before after' old new w (causes.Exited n) l h (λ x. tt) (λ s a l c e. e)
+file_source script name before after' old new w (Err (stops.Ended causes.EndInString)) l h =
+    ended_within script name before after' old new w causes.EndInString l h (λ x. tt) (λ s a l c e. e)
+file_source script name before after' old new w (Err (stops.Ended causes.EndInComment)) l h =
+    ended_within script name before after' old new w causes.EndInComment l h (λ x. tt) (λ s a l c e. e)
+file_source script name before after' old new w (Err (stops.Ended causes.EndInArguments)) l h =
+    ended_within script name before after' old new w causes.EndInArguments l h (λ x. tt) (λ s a l c e. e)
+file_source script name before after' old new w (Err (stops.Ended causes.ExpansionLimit)) l h =
+    ended_within script name before after' old new w causes.ExpansionLimit l h (λ x. tt) (λ s a l c e. e)
+file_source script name before after' old new w (Err (stops.Ended causes.NestingLimit)) l h =
+    ended_within script name before after' old new w causes.NestingLimit l h (λ x. tt) (λ s a l c e. e)
 
 pub file_so : {R : Type 0} (script : R → Option Script) (name : List ℕ) (before later : R) (first last : RunSource R)
     (old new : SessionState) (w : Contents) (r : Result Unit Stop) → first ≡ sources.Opened name before
@@ -276,8 +302,14 @@ missing_source : {R : Type 0} (script : R → Option Script) (name : List ℕ) (
     → SourceGives script (sources.Unopened name) (sources.Unopened name) old new w r
 missing_source script name old new w (Ok done) l o h = (Unopened name, (refl, refl), (missing_goes old new name w (Ok done) l o h).0)
 missing_source script name old new w (Err stops.Finished) l o h = absurd (h.0 l)
-missing_source script name old new w (Err (stops.Ended causes.Write)) l o h =
-    (name, [], (refl, refl, refl), none_asked old name [] _ w causes.Write l tt (record { output = o ∙ with_bytes-nil w.out_old; messages = ((h.1).1).holds }), tt)
+missing_source script name old new w (Err (stops.Ended causes.Write)) l o h = (
+  name,
+  [],
+  (refl, refl, refl),
+  none_asked old name [] _ w causes.Write l tt
+      (record { output = o ∙ with_bytes-nil w.out_old; messages = ((h.1).1).holds }),
+  tt,
+)
 missing_source script name old new w (Err (stops.Ended causes.Read)) l o h = absurd h
 missing_source script name old new w (Err (stops.Ended causes.OutOfMemory)) l o h = absurd h
 missing_source script name old new w (Err (stops.Ended causes.Done)) l o h = absurd h
@@ -301,11 +333,29 @@ missing_so script name x y old new w r e f l o h =
 same_bytes : (s : Option Script) → s ≡ after_bytes [] s
 same_bytes s = (reads_nothing s (file_pending [] [] true)).given
 
-unread_within : {R : Type 0} (script : R → Option Script) (x : RunSource R) (old : SessionState) (out reported : Option (List ℕ)) → IsOpen old → EndsWithin script x x old (writers out out reported reported) causes.OutOfMemory
-unread_within script (sources.Opened name r) old out reported l = (name, [], (refl, refl, same_bytes (script r)), none_asked old name [] [] (writers out out reported reported) causes.OutOfMemory l tt (record { output = with_bytes-nil out; messages = with_bytes-nil reported }), tt)
-unread_within script (sources.Unopened name) old out reported l = (name, [], (refl, refl, refl), none_asked old name [] [] (writers out out reported reported) causes.OutOfMemory l tt (record { output = with_bytes-nil out; messages = with_bytes-nil reported }), tt)
+unread_within : {R : Type 0} (script : R → Option Script) (x : RunSource R) (old : SessionState)
+    (out reported : Option (List ℕ)) → IsOpen old
+    → EndsWithin script x x old (writers out out reported reported) causes.OutOfMemory
+unread_within script (sources.Opened name r) old out reported l = (
+  name,
+  [],
+  (refl, refl, same_bytes (script r)),
+  none_asked old name [] [] (writers out out reported reported) causes.OutOfMemory l tt
+      (record { output = with_bytes-nil out; messages = with_bytes-nil reported }),
+  tt,
+)
+unread_within script (sources.Unopened name) old out reported l = (
+  name,
+  [],
+  (refl, refl, refl),
+  none_asked old name [] [] (writers out out reported reported) causes.OutOfMemory l tt
+      (record { output = with_bytes-nil out; messages = with_bytes-nil reported }),
+  tt,
+)
 
-pub unread_so : {R : Type 0} (script : R → Option Script) (x y : RunSource R) (old new : SessionState) (out reported : Option (List ℕ)) (r : Result Unit Stop) → x ≡ y → r ≡ Err (stops.Ended causes.OutOfMemory) → IsOpen old → SourceGives script x y old new (writers out out reported reported) r
+pub unread_so : {R : Type 0} (script : R → Option Script) (x y : RunSource R) (old new : SessionState)
+    (out reported : Option (List ℕ)) (r : Result Unit Stop) → x ≡ y → r ≡ Err (stops.Ended causes.OutOfMemory)
+    → IsOpen old → SourceGives script x y old new (writers out out reported reported) r
 unread_so script x y old new out reported r f i l =
     subst (λ z. SourceGives script x z old new (writers out out reported reported) r) f
     (subst (λ (z : Result Unit Stop). SourceGives script x x old new (writers out out reported reported) z) (sym i) (unread_within script x old out reported l))
@@ -364,11 +414,13 @@ left_at script (suc i) (a ∷ xs) (b ∷ ys) x v [] d f = absurd f
 left_at script (suc i) (a ∷ xs) (b ∷ ys) x v (s ∷ ss) d f = left_at script i xs ys x v ss d f.1
 
 -- where it ended, after what came before
-sum_map : (cause : Cause) (s s' : SettledSoFar) (all : Type 0) (left left' : Option Script) (c c' : Type 0) → s'.reason ≡ s.reason → left ≡ left' → (c → c') → Sum cause s all left c → Sum cause s' all left' c'
+sum_map : (cause : Cause) (s s' : SettledSoFar) (all : Type 0) (left left' : Option Script) (c c' : Type 0)
+    → s'.reason ≡ s.reason → left ≡ left' → (c → c') → Sum cause s all left c → Sum cause s' all left' c'
 sum_map cause s s' all left left' c c' e f g (inl h) = inl (e ∙ h)
 sum_map cause s s' all left left' c c' e f g (inr h) = inr (h.0, subst IsAtEnd f h.1, g h.2)
 
-pub ended_map : (cause : Cause) (s s' : SettledSoFar) (all : Type 0) (left left' : Option Script) (c c' : Type 0) → s'.reason ≡ s.reason → left ≡ left' → (c → c') → EndedBy cause s all left c → EndedBy cause s' all left' c'
+pub ended_map : (cause : Cause) (s s' : SettledSoFar) (all : Type 0) (left left' : Option Script) (c c' : Type 0)
+    → s'.reason ≡ s.reason → left ≡ left' → (c → c') → EndedBy cause s all left c → EndedBy cause s' all left' c'
 ended_map causes.Write s s' all left left' c c' e f g h = tt
 ended_map causes.OutOfMemory s s' all left left' c c' e f g h = tt
 ended_map causes.Read s s' all left left' c c' e f g h = (h.0, subst IsAtFault f h.1)
@@ -382,7 +434,8 @@ ended_map causes.NestingLimit s s' all left left' c c' e f g h = sum_map causes.
 ended_map (causes.Frozen f) s s' all left left' c c' e i g h = sum_map (causes.Frozen f) s s' all left left' c c' e i g h
 
 -- all were read
-were_read : {R : Type 0} (script : R → Option Script) (i : ℕ) (xs ys : List (RunSource R)) (ss : List Source) → drop i xs ≡ drop i ys → length xs ≤ i → FirstRead script i ys xs ss → AreRead script ys xs ss
+were_read : {R : Type 0} (script : R → Option Script) (i : ℕ) (xs ys : List (RunSource R)) (ss : List Source)
+    → drop i xs ≡ drop i ys → length xs ≤ i → FirstRead script i ys xs ss → AreRead script ys xs ss
 were_read script zero [] [] [] e l f = tt
 were_read script zero [] [] (s ∷ ss) e l f = absurd f
 were_read script zero [] (b ∷ ys) ss e l f = cc
@@ -404,8 +457,17 @@ pub record ReadSoFar {R : Type 0} (script : R → Option Script) (i : ℕ) (befo
   pub limits : s.limits ≡ s0.limits
   pub here : after_sources s0.limits ss (progress_of s0) ≡ after o m (progress_of s)
 
-pub none_yet : {R : Type 0} (script : R → Option Script) (xs : List (RunSource R)) (s : SessionState) (out reported : Option (List ℕ)) → ReadSoFar script 0 xs xs s s (writers out out reported reported)
-none_yet script xs s out reported = record { ss = []; first = tt; o = []; m = []; written = record { output = with_bytes-nil out; messages = with_bytes-nil reported }; limits = refl; here = refl }
+pub none_yet : {R : Type 0} (script : R → Option Script) (xs : List (RunSource R)) (s : SessionState)
+    (out reported : Option (List ℕ)) → ReadSoFar script 0 xs xs s s (writers out out reported reported)
+none_yet script xs s out reported = record {
+  ss = [];
+  first = tt;
+  o = [];
+  m = [];
+  written = record { output = with_bytes-nil out; messages = with_bytes-nil reported };
+  limits = refl;
+  here = refl;
+}
 
 module _ {R : Type 0} (script : R → Option Script) (i : ℕ) (xs ys : List (RunSource R)) (x v : RunSource R)
     (s0 s s' : SessionState) (out0 out out' reported0 reported reported' : Option (List ℕ))
@@ -414,14 +476,16 @@ module _ {R : Type 0} (script : R → Option Script) (i : ℕ) (xs ys : List (Ru
   item_is : slice_index_or xs i x ∷ drop (suc i) xs ≡ drop i xs
   item_is = sym (drop-cons xs i x n)
 
-  pub one_more_read : SourceGives script (slice_index_or xs i x) v s s' (writers out out' reported reported') (Ok tt) → ReadSoFar script (i + 1) ys (slice_set xs i v) s0 s' (writers out0 out' reported0 reported')
+  pub one_more_read : SourceGives script (slice_index_or xs i x) v s s' (writers out out' reported reported') (Ok tt)
+      → ReadSoFar script (i + 1) ys (slice_set xs i v) s0 s' (writers out0 out' reported0 reported')
   one_more_read h =
       let p : Progress = after_source s.limits h.0 (progress_of s) in
       let f = h.2 in
       let j : suc i ≡ i + 1 = omega arith in
       record {
         ss = b.ss ++ h.0 ∷ [];
-        first = subst (λ (k : ℕ). FirstRead script k ys (slice_set xs i v) (b.ss ++ h.0 ∷ [])) j (next_read script i xs ys (slice_index_or xs i x) v b.ss h.0 e (sym item_is) b.first h.1);
+        first = subst (λ (k : ℕ). FirstRead script k ys (slice_set xs i v) (b.ss ++ h.0 ∷ [])) j
+            (next_read script i xs ys (slice_index_or xs i x) v b.ss h.0 e (sym item_is) b.first h.1);
         o = b.o ++ (p.so_far).output;
         m = b.m ++ (p.so_far).messages;
         written = record {
@@ -443,23 +507,31 @@ module _ {R : Type 0} (script : R → Option Script) (i : ℕ) (xs ys : List (Ru
       ∙ ap (λ (l : Limits). in_front b.o b.m (settled_in l (progress_of s) name y)) (sym b.limits)
 
   -- the end of the next source ends the run
-  closed_here : (name y : List ℕ) (cause : Cause) → (after_source s.limits (Opened name y) (progress_of s)).over ≡ Some (Ends cause) → EndsOrIsLast ys s0.limits (progress_of s0) b.ss name y cause
+  closed_here : (name y : List ℕ) (cause : Cause)
+      → (after_source s.limits (Opened name y) (progress_of s)).over ≡ Some (Ends cause)
+      → EndsOrIsLast ys s0.limits (progress_of s0) b.ss name y cause
   closed_here name y cause h =
       let all : after_sources s0.limits (b.ss ++ Opened name y ∷ []) (progress_of s0) ≡ after b.o b.m (after_source s.limits (Opened name y) (progress_of s)) =
-      sources_append s0.limits b.ss (Opened name y ∷ []) (progress_of s0) ∙ ap (after_sources s0.limits (Opened name y ∷ [])) b.here ∙ source_after s0 s b.o b.m (Opened name y) [] b.limits in
+      sources_append s0.limits b.ss (Opened name y ∷ []) (progress_of s0)
+      ∙ ap (after_sources s0.limits (Opened name y ∷ [])) b.here ∙ source_after s0 s b.o b.m (Opened name y) [] b.limits in
       inl (ap (λ (p : Progress). p.over) all ∙ h)
 
-  ends_here : (cause : Cause) → EndsWithin script (slice_index_or xs i x) v s (writers out out' reported reported') cause → Reached script ys (slice_set xs i v) s0.limits (progress_of s0) cause (writers out0 out' reported0 reported')
+  ends_here : (cause : Cause) → EndsWithin script (slice_index_or xs i x) v s (writers out out' reported reported')
+      cause → Reached script ys (slice_set xs i v) s0.limits (progress_of s0) cause (writers out0 out' reported0 reported')
   ends_here cause h = record {
     before = b.ss;
     name = h.0;
     taken = h.1;
     place = next_reached script i xs ys (slice_index_or xs i x) v b.ss h.0 h.1 e (sym item_is) b.first h.2;
-    at = asked_further b.o b.m out0 out out' reported0 reported reported' (b.written).output (b.written).messages (settled_in s.limits (progress_of s) h.0) (settled_after s0.limits (progress_of s0) b.ss h.0) cause h.1 (settled_here h.0) h.3;
-    ended = ended_map cause _ _ _ _ _ _ _ (ap (λ (y : SettledSoFar). y.reason) (settled_here h.0 h.1)) (left_at script i xs ys (slice_index_or xs i x) v b.ss (sym item_is) b.first) (closed_here h.0 h.1 cause) h.4;
+    at = asked_further b.o b.m out0 out out' reported0 reported reported' (b.written).output (b.written).messages
+        (settled_in s.limits (progress_of s) h.0) (settled_after s0.limits (progress_of s0) b.ss h.0) cause h.1
+        (settled_here h.0) h.3;
+    ended = ended_map cause _ _ _ _ _ _ _ (ap (λ (y : SettledSoFar). y.reason) (settled_here h.0 h.1))
+        (left_at script i xs ys (slice_index_or xs i x) v b.ss (sym item_is) b.first) (closed_here h.0 h.1 cause) h.4;
   }
 
-  stops_here : (y : Stop) → SourceGives script (slice_index_or xs i x) v s s' (writers out out' reported reported') (Err y) → SourcesGive script ys (slice_set xs i v) s0 s' (writers out0 out' reported0 reported') (Err y)
+  stops_here : (y : Stop) → SourceGives script (slice_index_or xs i x) v s s' (writers out out' reported reported')
+      (Err y) → SourcesGive script ys (slice_set xs i v) s0 s' (writers out0 out' reported0 reported') (Err y)
   stops_here stops.Finished h = absurd h
   stops_here (stops.Ended causes.Read) h = ends_here causes.Read h
   stops_here (stops.Ended causes.Write) h = ends_here causes.Write h
@@ -473,11 +545,15 @@ module _ {R : Type 0} (script : R → Option Script) (i : ℕ) (xs ys : List (Ru
   stops_here (stops.Ended causes.NestingLimit) h = ends_here causes.NestingLimit h
   stops_here (stops.Ended (causes.Frozen f)) h = absurd h
 
-  pub stops_so : (y : Stop) (q r : Result Unit Stop) → q ≡ Err y → r ≡ Err y → SourceGives script (slice_index_or xs i x) v s s' (writers out out' reported reported') q → SourcesGive script ys (slice_set xs i v) s0 s' (writers out0 out' reported0 reported') r
+  pub stops_so : (y : Stop) (q r : Result Unit Stop) → q ≡ Err y → r ≡ Err y
+      → SourceGives script (slice_index_or xs i x) v s s' (writers out out' reported reported') q
+      → SourcesGive script ys (slice_set xs i v) s0 s' (writers out0 out' reported0 reported') r
   stops_so y q r f g h =
       subst (SourcesGive script ys (slice_set xs i v) s0 s' (writers out0 out' reported0 reported')) (sym g)
       (stops_here y (subst (SourceGives script (slice_index_or xs i x) v s s' (writers out out' reported reported')) f h))
 
-pub all_read_so : {R : Type 0} (script : R → Option Script) (i : ℕ) (xs ys : List (RunSource R)) (s0 s : SessionState) (w : Contents) → drop i xs ≡ drop i ys → length xs ≤ i → IsOpen s0 → IsOpen s → ReadSoFar script i ys xs s0 s w → SourcesGive script ys xs s0 s w (Ok tt)
+pub all_read_so : {R : Type 0} (script : R → Option Script) (i : ℕ) (xs ys : List (RunSource R)) (s0 s : SessionState)
+    (w : Contents) → drop i xs ≡ drop i ys → length xs ≤ i → IsOpen s0 → IsOpen s → ReadSoFar script i ys xs s0 s w
+    → SourcesGive script ys xs s0 s w (Ok tt)
 all_read_so script i xs ys s0 s w e n l0 l b =
     (b.ss, were_read script i xs ys b.ss e n b.first, (all_made b.o b.m s0 s w _ l0 l b.limits (b.written).output (b.written).messages (sym b.here)).0)

@@ -26,13 +26,15 @@ sound_same failures (sources.Opened name r) = refl
 sound_same failures (sources.Unopened name) = tt
 
 -- a source by its reader
-opened_fails : {R : Type 0} (script : R → Option Script) (failures : R → ℕ) (name n : List ℕ) (before later : R) (old new : SessionState) (w : Contents) (r : Result Unit Stop)
+opened_fails : {R : Type 0} (script : R → Option Script) (failures : R → ℕ) (name n : List ℕ) (before later : R)
+    (old new : SessionState) (w : Contents) (r : Result Unit Stop)
     → ReadFails r (failures before) (failures later) → FileGives name (script before) (script later) old new w r
     → SourceFails script failures r (sources.Opened name before) (sources.Opened n later)
 opened_fails script failures name n before later old new w (Err (stops.Ended causes.Read)) h g = (h, g.at_fault)
 opened_fails script failures name n before later old new w r h g = h
 
-pub source_fails : {R : Type 0} (script : R → Option Script) (failures : R → ℕ) (name n : List ℕ) (before later : R) (first after : RunSource R) (old new : SessionState) (w : Contents)
+pub source_fails : {R : Type 0} (script : R → Option Script) (failures : R → ℕ) (name n : List ℕ) (before later : R)
+    (first after : RunSource R) (old new : SessionState) (w : Contents)
     (r : Result Unit Stop) → first ≡ sources.Opened name before → after ≡ sources.Opened n later
     → ReadFails r (failures before) (failures later) → FileGives name (script before) (script later) old new w r
     → SourceFails script failures r first after
@@ -41,7 +43,9 @@ source_fails script failures name n before later first after old new w r f b h g
     (subst (λ x. SourceFails script failures r (sources.Opened name before) x) (sym b) (opened_fails script failures name n before later old new w r h g))
 
 -- the reader at a place failed
-failed_there : {R : Type 0} (script : R → Option Script) (failures : R → ℕ) (i : ℕ) (xs ys : List (RunSource R)) (x v : RunSource R) → drop i xs ≡ drop i ys → drop i xs ≡ x ∷ drop (suc i) xs → HasFailed script failures x v → AnyFailed script failures ys (slice_set xs i v)
+failed_there : {R : Type 0} (script : R → Option Script) (failures : R → ℕ) (i : ℕ) (xs ys : List (RunSource R))
+    (x v : RunSource R) → drop i xs ≡ drop i ys → drop i xs ≡ x ∷ drop (suc i) xs → HasFailed script failures x v
+    → AnyFailed script failures ys (slice_set xs i v)
 failed_there script failures zero [] ys x v e d h = cc
 failed_there script failures zero (a ∷ xs) [] x v e d h = cc
 failed_there script failures zero (a ∷ xs) (b ∷ ys) x v e d h =
@@ -51,7 +55,9 @@ failed_there script failures (suc i) [] ys x v e d h = cc
 failed_there script failures (suc i) (a ∷ xs) [] x v e d h = cc
 failed_there script failures (suc i) (a ∷ xs) (b ∷ ys) x v e d h = inr (failed_there script failures i xs ys x v e d h)
 
-pub item_failed : {R : Type 0} (script : R → Option Script) (failures : R → ℕ) (i : ℕ) (xs ys : List (RunSource R)) (x v : RunSource R) → drop i xs ≡ drop i ys → i < length xs → HasFailed script failures (slice_index_or xs i x) v → AnyFailed script failures ys (slice_set xs i v)
+pub item_failed : {R : Type 0} (script : R → Option Script) (failures : R → ℕ) (i : ℕ) (xs ys : List (RunSource R))
+    (x v : RunSource R) → drop i xs ≡ drop i ys → i < length xs → HasFailed script failures (slice_index_or xs i x) v
+    → AnyFailed script failures ys (slice_set xs i v)
 item_failed script failures i xs ys x v e l h = failed_there script failures i xs ys (slice_index_or xs i x) v e (drop-cons xs i x l) h
 
 -- each source is so related to itself
@@ -60,7 +66,8 @@ pairs_same P h [] = tt
 pairs_same P h (x ∷ xs) = (h x, pairs_same P h xs)
 
 -- what is at one place changes so
-pair_there : {A : Type 0} (P : A → A → Type 0) (i : ℕ) (xs ys : List A) (x v : A) → AllPairs P ys xs → drop i xs ≡ drop i ys → drop i xs ≡ x ∷ drop (suc i) xs → P x v → AllPairs P ys (slice_set xs i v)
+pair_there : {A : Type 0} (P : A → A → Type 0) (i : ℕ) (xs ys : List A) (x v : A) → AllPairs P ys xs
+    → drop i xs ≡ drop i ys → drop i xs ≡ x ∷ drop (suc i) xs → P x v → AllPairs P ys (slice_set xs i v)
 pair_there P zero [] ys x v a e d h = cc
 pair_there P zero (p ∷ xs) [] x v a e d h = cc
 pair_there P zero (p ∷ xs) (q ∷ ys) x v a e d h =
@@ -70,7 +77,8 @@ pair_there P (suc i) [] ys x v a e d h = cc
 pair_there P (suc i) (p ∷ xs) [] x v a e d h = cc
 pair_there P (suc i) (p ∷ xs) (q ∷ ys) x v a e d h = (a.0, pair_there P i xs ys x v a.1 e d h)
 
-pub pair_item : {A : Type 0} (P : A → A → Type 0) (i : ℕ) (xs ys : List A) (x v : A) → AllPairs P ys xs → drop i xs ≡ drop i ys → i < length xs → P (slice_index_or xs i x) v → AllPairs P ys (slice_set xs i v)
+pub pair_item : {A : Type 0} (P : A → A → Type 0) (i : ℕ) (xs ys : List A) (x v : A) → AllPairs P ys xs
+    → drop i xs ≡ drop i ys → i < length xs → P (slice_index_or xs i x) v → AllPairs P ys (slice_set xs i v)
 pair_item P i xs ys x v a e l h = pair_there P i xs ys (slice_index_or xs i x) v a e (drop-cons xs i x l) h
 
 pub none_taken_yet : {R : Type 0} (script : R → Option Script) (xs : List (RunSource R)) → AllConsumeOnly script xs xs
@@ -95,7 +103,9 @@ sources_fail script failures i xs ys x v e q r f g a d l h =
     (failed_by script failures i xs ys x v e a d l (subst (λ (z : Result Unit Stop). SourceFails script failures z (slice_index_or xs i x) v) f h))
 
 -- the end of a run asks no reader
-ends_sound : {R : Type 0} (script : R → Option Script) (failures : R → ℕ) (xs ys : List (RunSource R)) (freezes : Bool) (old new : SessionState) (w : Contents) (e : Stop) → EndGives freezes old new w (Err e) → AllPairs (is_sound failures) xs ys → SourcesFail {A = Bool} script failures (Err e) xs ys
+ends_sound : {R : Type 0} (script : R → Option Script) (failures : R → ℕ) (xs ys : List (RunSource R)) (freezes : Bool)
+    (old new : SessionState) (w : Contents) (e : Stop) → EndGives freezes old new w (Err e)
+    → AllPairs (is_sound failures) xs ys → SourcesFail {A = Bool} script failures (Err e) xs ys
 ends_sound script failures xs ys freezes old new w (stops.Ended causes.Read) h a = absurd h
 ends_sound script failures xs ys freezes old new w e h a = a
 
@@ -107,7 +117,9 @@ close_sound script failures xs ys freezes old new w e q r f g h a =
     subst (λ (z : Result Bool Stop). SourcesFail script failures z xs ys) (sym g)
     (ends_sound script failures xs ys freezes old new w.two e (subst (EndGives freezes old new w.two) f (close_ends freezes old new w q h)) a)
 
-pub same_fails : {R : Type 0} (script : R → Option Script) (failures : R → ℕ) (xs ys : List (RunSource R)) (e : Stop) (q : Result Unit Stop) (r : Result Bool Stop) → q ≡ Err e → r ≡ Err e → SourcesFail script failures q xs ys → SourcesFail script failures r xs ys
+pub same_fails : {R : Type 0} (script : R → Option Script) (failures : R → ℕ) (xs ys : List (RunSource R)) (e : Stop)
+    (q : Result Unit Stop) (r : Result Bool Stop) → q ≡ Err e → r ≡ Err e → SourcesFail script failures q xs ys
+    → SourcesFail script failures r xs ys
 same_fails script failures xs ys e q r f g h =
     subst (λ (z : Result Bool Stop). SourcesFail script failures z xs ys) (sym g)
     (as_bool e (subst (λ (z : Result Unit Stop). SourcesFail script failures z xs ys) f h))
@@ -116,14 +128,18 @@ same_fails script failures xs ys e q r f g h =
     as_bool (stops.Ended causes.Read) h = h
     as_bool e h = h
 
-ended_fails : {R : Type 0} (script : R → Option Script) (failures : R → ℕ) (status : ℕ) (xs ys : List (RunSource R)) (r : Result Bool Stop) → SourcesFail script failures r xs ys → ReadersFailBy script failures (ending_by status r).cause xs ys
+ended_fails : {R : Type 0} (script : R → Option Script) (failures : R → ℕ) (status : ℕ) (xs ys : List (RunSource R))
+    (r : Result Bool Stop) → SourcesFail script failures r xs ys → ReadersFailBy script failures (ending_by status r).cause xs ys
 ended_fails script failures status xs ys (Ok wrapped) h = h
 ended_fails script failures status xs ys (Err stops.Finished) h = h
 ended_fails script failures status xs ys (Err (stops.Ended causes.Read)) h = h
 ended_fails script failures status xs ys (Err (stops.Ended cause)) h = h
 
-pub run_fails : {R : Type 0} (script : R → Option Script) (failures : R → ℕ) (status : ℕ) (xs ys : List (RunSource R)) (r : Result Bool Stop) (e : Ending) → e ≡ ending_by status r → SourcesFail script failures r xs ys → ReadersFailBy script failures e.cause xs ys
-run_fails script failures status xs ys r e f h = subst (λ (z : Ending). ReadersFailBy script failures z.cause xs ys) (sym f) (ended_fails script failures status xs ys r h)
+pub run_fails : {R : Type 0} (script : R → Option Script) (failures : R → ℕ) (status : ℕ) (xs ys : List (RunSource R))
+    (r : Result Bool Stop) (e : Ending) → e ≡ ending_by status r → SourcesFail script failures r xs ys
+    → ReadersFailBy script failures e.cause xs ys
+run_fails script failures status xs ys r e f h =
+    subst (λ (z : Ending). ReadersFailBy script failures z.cause xs ys) (sym f) (ended_fails script failures status xs ys r h)
 
 -- whether a source wasn't opened, where so many were read
 pub or_turn : (a r m : Bool) → (r || (a || m)) ≡ ((a || r) || m)
@@ -131,7 +147,9 @@ or_turn true true m = refl
 or_turn true false m = refl
 or_turn false r m = refl
 
-pub missed_on : {R : Type 0} (i : ℕ) (xs ys : List (RunSource R)) (x : RunSource R) (m m' t : Bool) → drop i xs ≡ drop i ys → i < length xs → m' ≡ (is_unopened (slice_index_or xs i x) || m) → (any_unopened (drop i ys) || m) ≡ t → (any_unopened (drop (i + 1) ys) || m') ≡ t
+pub missed_on : {R : Type 0} (i : ℕ) (xs ys : List (RunSource R)) (x : RunSource R) (m m' t : Bool)
+    → drop i xs ≡ drop i ys → i < length xs → m' ≡ (is_unopened (slice_index_or xs i x) || m)
+    → (any_unopened (drop i ys) || m) ≡ t → (any_unopened (drop (i + 1) ys) || m') ≡ t
 missed_on i xs ys x m m' t e l h k =
     let s = slice_index_or xs i x in
     let n : suc i ≡ i + 1 = omega arith in
@@ -142,6 +160,7 @@ missed_on i xs ys x m m' t e l h k =
     ∙ ap (λ (z : List (RunSource _)). any_unopened z || m) (sym there)
     ∙ k
 
-pub missed_last : {R : Type 0} (i : ℕ) (xs ys : List (RunSource R)) (m t : Bool) → drop i xs ≡ drop i ys → length xs ≤ i → (any_unopened (drop i ys) || m) ≡ t → m ≡ t
+pub missed_last : {R : Type 0} (i : ℕ) (xs ys : List (RunSource R)) (m t : Bool) → drop i xs ≡ drop i ys → length xs ≤ i
+    → (any_unopened (drop i ys) || m) ≡ t → m ≡ t
 missed_last i xs ys m t e l k =
     ap (λ (z : List (RunSource _)). any_unopened z || m) (sym (drop_all i xs l) ∙ e) ∙ k

@@ -45,7 +45,9 @@ none_read ss s out reported = record {
 }
 
 -- after a source, the run continues from what was written of it
-pub source_after : (s0 s : SessionState) (o m : List ℕ) (t : Source) (ts : List Source) → s.limits ≡ s0.limits → after_sources s0.limits (t ∷ ts) (after o m (progress_of s)) ≡ after_sources s0.limits ts (after o m (after_source s.limits t (progress_of s)))
+pub source_after : (s0 s : SessionState) (o m : List ℕ) (t : Source) (ts : List Source) → s.limits ≡ s0.limits
+    → after_sources s0.limits (t ∷ ts) (after o m (progress_of s))
+    ≡ after_sources s0.limits ts (after o m (after_source s.limits t (progress_of s)))
 source_after s0 s o m t ts l =
     ap (after_sources s0.limits ts)
     (sources_after o m s0.limits (t ∷ []) (progress_of s) ∙ ap (λ (x : Limits). after o m (after_source x t (progress_of s))) (sym l))
@@ -70,7 +72,8 @@ one_read ss i j s0 s s' t out0 out out' reported0 reported reported' b d f =
       steps = λ x y before later h.
           let o : List ℕ = x ++ b.o in
           let m : List ℕ = y ++ b.m in
-          let there : after (x ++ (b.o ++ (p.so_far).output)) (y ++ (b.m ++ (p.so_far).messages)) (progress_of s') ≡ after_source s0.limits t (after o m (progress_of s)) =
+          let there : after (x ++ (b.o ++ (p.so_far).output)) (y ++ (b.m ++ (p.so_far).messages)) (progress_of s')
+          ≡ after_source s0.limits t (after o m (progress_of s)) =
           ap (λ (n : List ℕ). after n (y ++ (b.m ++ (p.so_far).messages)) (progress_of s')) (sym (append_assoc x b.o (p.so_far).output))
           ∙ ap (λ (n : List ℕ). after (o ++ (p.so_far).output) n (progress_of s')) (sym (append_assoc y b.m (p.so_far).messages))
           ∙ sym (written_after o m p (progress_of s') f.progress)
@@ -81,13 +84,16 @@ one_read ss i j s0 s s' t out0 out out' reported0 reported reported' b d f =
     }
 
 -- all were read
-pub all_read : (ss : List Source) (i : ℕ) (s0 s : SessionState) (w : Contents) → IsOpen s0 → IsOpen s → Between ss i s0 s w → drop i ss ≡ [] → GoesTo (after_sources s0.limits ss (progress_of s0)) s0 s w (Ok tt)
+pub all_read : (ss : List Source) (i : ℕ) (s0 s : SessionState) (w : Contents) → IsOpen s0 → IsOpen s
+    → Between ss i s0 s w → drop i ss ≡ [] → GoesTo (after_sources s0.limits ss (progress_of s0)) s0 s w (Ok tt)
 all_read ss i s0 s w l0 l b d =
     all_made b.o b.m s0 s w _ l0 l b.limits b.output b.messages
     (sym (b.rest ∙ ap (λ (ts : List Source). after_sources s0.limits ts (after b.o b.m (progress_of s))) d))
 
 -- a source that is read is within all of them
-within : (ss : List Source) (i j : ℕ) (s0 s : SessionState) (t : Source) (w : Contents) (b : Between ss i s0 s w) → drop i ss ≡ t ∷ drop j ss → Within b.o b.m (after_source s.limits t (progress_of s)) (after_sources s0.limits ss (progress_of s0))
+within : (ss : List Source) (i j : ℕ) (s0 s : SessionState) (t : Source) (w : Contents) (b : Between ss i s0 s w)
+    → drop i ss ≡ t ∷ drop j ss → Within b.o b.m (after_source s.limits t (progress_of s))
+    (after_sources s0.limits ss (progress_of s0))
 within ss i j s0 s t w b d =
     let p : Progress = after_source s.limits t (progress_of s) in
     let e : after_sources s0.limits ss (progress_of s0) ≡ after_sources s0.limits (drop j ss) (after b.o b.m p) =
@@ -125,7 +131,8 @@ source_step ss i j s0 s t out0 out out' reported0 reported reported' b d h = λ 
     )
 
 -- the source at a position
-reported_at : {R : Type 0} (f : R → Option Source) (xs : List R) (ss : List Source) (i : ℕ) (x : R) (rest : List R) → map f xs ≡ map Some ss → drop i xs ≡ x ∷ rest → (t : Source) × (f x ≡ Some t) × (drop i ss ≡ t ∷ drop (suc i) ss)
+reported_at : {R : Type 0} (f : R → Option Source) (xs : List R) (ss : List Source) (i : ℕ) (x : R) (rest : List R)
+    → map f xs ≡ map Some ss → drop i xs ≡ x ∷ rest → (t : Source) × (f x ≡ Some t) × (drop i ss ≡ t ∷ drop (suc i) ss)
 reported_at f [] [] zero x rest e d = cc
 reported_at f [] [] (suc i) x rest e d = cc
 reported_at f [] (s ∷ ss) i x rest e d = cc
@@ -159,7 +166,8 @@ may_first script (suc i) [] [] [] = Unit {0}
 may_first script (suc i) (x ∷ xs) (y ∷ ys) (s ∷ ss) = ExtendsSource script x y s × may_first script i xs ys ss
 may_first script (suc i) before after ss = ⊥
 
-first_of_all : {R : Type 0} (script : R → Option Script) (xs ys : List (RunSource R)) (ss : List Source) (i : ℕ) → ExtendSources script xs ys ss → may_first script i xs ys ss
+first_of_all : {R : Type 0} (script : R → Option Script) (xs ys : List (RunSource R)) (ss : List Source) (i : ℕ)
+    → ExtendSources script xs ys ss → may_first script i xs ys ss
 first_of_all script xs ys ss zero h = tt
 first_of_all script [] [] [] (suc i) h = tt
 first_of_all script [] [] (s ∷ ss) (suc i) h = absurd h
@@ -169,7 +177,8 @@ first_of_all script (x ∷ xs) [] ss (suc i) h = absurd h
 first_of_all script (x ∷ xs) (y ∷ ys) [] (suc i) h = absurd h
 first_of_all script (x ∷ xs) (y ∷ ys) (s ∷ ss) (suc i) h = (h.0, first_of_all script xs ys ss i h.1)
 
-none_may : {R : Type 0} (script : R → Option Script) (xs ys : List (RunSource R)) (ss : List Source) (i : ℕ) → ExtendSources script xs ys ss → length xs ≤ i → drop i ss ≡ []
+none_may : {R : Type 0} (script : R → Option Script) (xs ys : List (RunSource R)) (ss : List Source) (i : ℕ)
+    → ExtendSources script xs ys ss → length xs ≤ i → drop i ss ≡ []
 none_may script [] [] [] zero h l = refl
 none_may script [] [] [] (suc i) h l = refl
 none_may script [] [] (s ∷ ss) i h l = absurd h
@@ -187,7 +196,9 @@ record ItemMay {R : Type 0} (script : R → Option Script) (i : ℕ) (xs ys : Li
   may : ExtendsSource script x v source
   there : drop i ss ≡ source ∷ drop (suc i) ss
 
-item_may : {R : Type 0} (script : R → Option Script) (i : ℕ) (xs ys : List (RunSource R)) (x v : RunSource R) (ss : List Source) → drop i xs ≡ drop i ys → drop i xs ≡ x ∷ drop (suc i) xs → may_first script (suc i) ys (slice_set xs i v) ss → ItemMay script i xs ys x v ss
+item_may : {R : Type 0} (script : R → Option Script) (i : ℕ) (xs ys : List (RunSource R)) (x v : RunSource R)
+    (ss : List Source) → drop i xs ≡ drop i ys → drop i xs ≡ x ∷ drop (suc i) xs
+    → may_first script (suc i) ys (slice_set xs i v) ss → ItemMay script i xs ys x v ss
 item_may script zero [] ys x v ss e d h = cc
 item_may script zero (a ∷ xs) [] x v ss e d h = cc
 item_may script zero (a ∷ xs) (b ∷ ys) x v [] e d h = absurd h
@@ -205,11 +216,13 @@ item_may script (suc i) (a ∷ xs) (b ∷ ys) x v (s ∷ ss) e d h =
 abbrev pub FirstFor : {R : Type 0} → (R → Option Script) → ℕ → List (RunSource R) → List (RunSource R) → List Source → Type 0
 FirstFor script i before after ss = (map (source_of script) before ≡ map Some ss) ⊎ may_first script i before after ss
 
-pub first_for : {R : Type 0} (script : R → Option Script) (i : ℕ) (xs ys : List (RunSource R)) (ss : List Source) → DescribeSources script xs ys ss → FirstFor script i xs ys ss
+pub first_for : {R : Type 0} (script : R → Option Script) (i : ℕ) (xs ys : List (RunSource R)) (ss : List Source)
+    → DescribeSources script xs ys ss → FirstFor script i xs ys ss
 first_for script i xs ys ss (inl t) = inl t
 first_for script i xs ys ss (inr m) = inr (first_of_all script xs ys ss i m)
 
-pub none_left : {R : Type 0} (script : R → Option Script) (xs ys : List (RunSource R)) (ss : List Source) (i : ℕ) → DescribeSources script xs ys ss → length xs ≤ i → drop i ss ≡ []
+pub none_left : {R : Type 0} (script : R → Option Script) (xs ys : List (RunSource R)) (ss : List Source) (i : ℕ)
+    → DescribeSources script xs ys ss → length xs ≤ i → drop i ss ≡ []
 none_left script xs ys ss i (inl t) l = none_reported (source_of script) xs ss i t l
 none_left script xs ys ss i (inr m) l = none_may script xs ys ss i m l
 
@@ -220,7 +233,9 @@ pub record Item {R : Type 0} (script : R → Option Script) (i : ℕ) (xs ys : L
   pub describes : DescribesSource script x v source
   pub there : drop i ss ≡ source ∷ drop (i + 1) ss
 
-pub item : {R : Type 0} (script : R → Option Script) (i : ℕ) (xs ys : List (RunSource R)) (x v : RunSource R) (ss : List Source) → drop i xs ≡ drop i ys → i < length xs → FirstFor script (i + 1) ys (slice_set xs i v) ss → Item script i xs ys (slice_index_or xs i x) v ss
+pub item : {R : Type 0} (script : R → Option Script) (i : ℕ) (xs ys : List (RunSource R)) (x v : RunSource R)
+    (ss : List Source) → drop i xs ≡ drop i ys → i < length xs → FirstFor script (i + 1) ys (slice_set xs i v) ss
+    → Item script i xs ys (slice_index_or xs i x) v ss
 item script i xs ys x v ss d l (inl t) =
     let k = reported_at (source_of script) ys ss i (slice_index_or xs i x) (drop (suc i) xs) t (sym d ∙ drop-cons xs i x l) in
     let n : suc i ≡ i + 1 = omega arith in
@@ -237,11 +252,13 @@ pub stopped_so : (ss : List Source) (i j : ℕ) (s0 s s' : SessionState) (t : So
     → GoesTo (after_sources s0.limits ss (progress_of s0)) s0 s' (writers out0 out' reported0 reported') r
 stopped_so ss i j s0 s s' t out0 out out' reported0 reported reported' e q r f g l b d h =
     subst (GoesTo (after_sources s0.limits ss (progress_of s0)) s0 s' (writers out0 out' reported0 reported')) (sym g)
-    (stopped ss i j s0 s s' t out0 out out' reported0 reported reported' e l b d (subst (GoesTo (after_source s.limits t (progress_of s)) s s' (writers out out' reported reported')) f h))
+    (stopped ss i j s0 s s' t out0 out out' reported0 reported reported' e l b d
+    (subst (GoesTo (after_source s.limits t (progress_of s)) s s' (writers out out' reported reported')) f h))
 
 pub step_so : (ss : List Source) (i j : ℕ) (s0 s : SessionState) (t : Source)
     (out0 out out' reported0 reported reported' : Option (List ℕ)) (e : Stop) (q r : Result Unit Stop) → q ≡ Err e
     → r ≡ Err e → Between ss i s0 s (writers out0 out reported0 reported) → drop i ss ≡ t ∷ drop j ss
     → BreaksBy q (Breaks (IsStepOf s.limits t) (progress_of s) (writers out out' reported reported'))
     → BreaksBy r (Breaks (InSources s0.limits ss) (progress_of s0) (writers out0 out' reported0 reported'))
-step_so ss i j s0 s t out0 out out' reported0 reported reported' e q r f g b d h = same_breaks Unit Unit e q r _ _ f g (source_step ss i j s0 s t out0 out out' reported0 reported reported' b d) h
+step_so ss i j s0 s t out0 out out' reported0 reported reported' e q r f g b d h =
+    same_breaks Unit Unit e q r _ _ f g (source_step ss i j s0 s t out0 out out' reported0 reported reported' b d) h

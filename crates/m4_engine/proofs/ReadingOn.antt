@@ -21,7 +21,8 @@ nothing_came : (p : Pending) → p.may_follow ≡ true → longer [] true p ≡ 
 nothing_came p f = ap (λ (b : Bool). longer [] b p) (sym f) ∙ nothing_more p
 
 -- the next token is open: the expansion stops there
-token_open : (e : Engine) (p : Pending) (a b : List ℕ) → wants_token (e.state).quotes (e.state).comments p → comes_to wanted.Token (configuration a b e p) ≡ Halted (record { so_far = so_far_of a b e; reason = NeedsInput })
+token_open : (e : Engine) (p : Pending) (a b : List ℕ) → wants_token (e.state).quotes (e.state).comments p
+    → comes_to wanted.Token (configuration a b e p) ≡ Halted (record { so_far = so_far_of a b e; reason = NeedsInput })
 token_open e p a b w =
     ap (resume Expansion Kept Ended turn join expand (outer_of e.open_calls))
     (expand_is (here_of a b e p) ∙ ap (λ v. after Expansion Kept Ended join expand expand (take_front v (here_of a b e p))) w)

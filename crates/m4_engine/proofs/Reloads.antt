@@ -47,5 +47,6 @@ split o freezes prefix frozen as' bs text carries froze joint =
     let from : start_of o.prefix (Some (frozen_file text)) ≡ From s [] =
     ap (λ (x : List ℕ). start_of o.prefix (Some (frozen_file x))) is
     ∙ start_frozen o.prefix s (frozen_in_order (freezing true o) frozen as') carries.sized in
-    subst (λ (x : Start). Joins (run (freezing true o) frozen as') (run_from (freezing freezes o) x bs) (run (freezing freezes o) frozen (as' ++ bs))) (sym from)
+    subst (λ (x : Start). Joins (run (freezing true o) frozen as') (run_from (freezing freezes o) x bs)
+    (run (freezing freezes o) frozen (as' ++ bs))) (sym from)
     (split_states o freezes start as' bs text carries froze joint)

@@ -12,7 +12,8 @@ use Rattle.m4_engine.proofs.RunsAfter.{over_rounds}
 abbrev pub Complete : Progress → Type 0
 Complete p = ((h : EndReason) × (p.over ≡ Some h)) ⊎ ((p.so_far).saved ≡ [])
 
-complete_by : (v : Option EndReason) (go : Progress → Progress) (limits : TheLimits) (p : Progress) → p.over ≡ v → (p.so_far).saved ≡ [] → next_round go limits v (p.so_far).saved p ≡ p
+complete_by : (v : Option EndReason) (go : Progress → Progress) (limits : TheLimits) (p : Progress) → p.over ≡ v
+    → (p.so_far).saved ≡ [] → next_round go limits v (p.so_far).saved p ≡ p
 complete_by None go limits p e f = ap (λ saved. next_round go limits None saved p) f
 complete_by (Some h) go limits p e f = refl
 
@@ -26,7 +27,9 @@ complete_after : (n : ℕ) (limits : TheLimits) (p : Progress) → Complete p �
 complete_after n limits p h = subst Complete (sym (complete_stays n limits p h)) h
 
 -- a round leaves no text, or fewer calls
-pub round_saves : (limits : TheLimits) (saved : List (List ℕ)) (p : Progress) → ((read_saved limits saved p).so_far.saved ≡ []) ⊎ (limits.calls - (read_saved limits saved p).so_far.calls < limits.calls - (p.so_far).calls)
+pub round_saves : (limits : TheLimits) (saved : List (List ℕ)) (p : Progress)
+    → ((read_saved limits saved p).so_far.saved ≡ [])
+    ⊎ (limits.calls - (read_saved limits saved p).so_far.calls < limits.calls - (p.so_far).calls)
 round_saves limits saved p = (input_saves limits (record p.so_far { saved = [] }) (wrapped_pending (joined_back saved))).1
 
 next_complete : (go : Progress → Progress) (limits : TheLimits) (l : ℕ)
@@ -51,7 +54,9 @@ pub wraps_complete : (limits : TheLimits) (p : Progress) → Complete (after_wra
 wraps_complete limits p = rounds_complete (suc limits.calls) limits p (omega arith)
 
 -- with more rounds than were enough the run is the same
-next_same : (go go' : Progress → Progress) (limits : TheLimits) → ((q : Progress) → Complete (go q) → go' q ≡ go q) → (v : Option EndReason) (saved : List (List ℕ)) (p : Progress) → Complete (next_round go limits v saved p) → next_round go' limits v saved p ≡ next_round go limits v saved p
+next_same : (go go' : Progress → Progress) (limits : TheLimits) → ((q : Progress) → Complete (go q) → go' q ≡ go q)
+    → (v : Option EndReason) (saved : List (List ℕ)) (p : Progress) → Complete (next_round go limits v saved p)
+    → next_round go' limits v saved p ≡ next_round go limits v saved p
 next_same go go' limits h (Some x) saved p c = refl
 next_same go go' limits h None [] p c = refl
 next_same go go' limits h None (x ∷ xs) p c = h (read_saved limits (x ∷ xs) p) c
@@ -59,10 +64,13 @@ next_same go go' limits h None (x ∷ xs) p c = h (read_saved limits (x ∷ xs) 
 pub more_rounds : (n m : ℕ) (limits : TheLimits) (p : Progress) → n ≤ m → Complete (rounds n limits p) → rounds m limits p ≡ rounds n limits p
 more_rounds zero m limits p h c = complete_stays m limits p c
 more_rounds (suc n) zero limits p h c = absurd (omega arith)
-more_rounds (suc n) (suc m) limits p h c = next_same (rounds n limits) (rounds m limits) limits (λ q k. more_rounds n m limits q (omega arith) k) p.over (p.so_far).saved p c
+more_rounds (suc n) (suc m) limits p h c =
+    next_same (rounds n limits) (rounds m limits) limits (λ q k. more_rounds n m limits q (omega arith) k) p.over
+    (p.so_far).saved p c
 
 -- the round that comes next, and what comes after it
-next_rule : (limits : TheLimits) (p : Progress) (v : Option EndReason) (saved : List (List ℕ)) → next_round (rounds limits.calls limits) limits v saved p ≡ next_round (after_wraps limits) limits v saved p
+next_rule : (limits : TheLimits) (p : Progress) (v : Option EndReason) (saved : List (List ℕ))
+    → next_round (rounds limits.calls limits) limits v saved p ≡ next_round (after_wraps limits) limits v saved p
 next_rule limits p (Some h) saved = refl
 next_rule limits p None [] = refl
 next_rule limits p None (x ∷ xs) =

@@ -86,7 +86,8 @@ unfolding digits
 dollars = refl
 
 -- a source that can't be opened
-unopened : run usual None (Unopened (codes "nofile") ∷ Opened (codes "b.m4") (codes "z\n") ∷ []) ≡ record (done (codes "z\n") (codes "m4: cannot open `nofile'\n") 0) { status = 1 }
+unopened : run usual None (Unopened (codes "nofile") ∷ Opened (codes "b.m4") (codes "z\n") ∷ [])
+    ≡ record (done (codes "z\n") (codes "m4: cannot open `nofile'\n") 0) { status = 1 }
 unopened = refl
 
 -- a string without its end, in a run that freezes
@@ -124,7 +125,8 @@ rest_of_line : over_a usual (codes "a dnl b\nc\n") ≡ done (codes "a c\n") [] 1
 rest_of_line = refl
 
 -- one argument too many
-excess_arguments : over_a usual (codes "define(`a',`b',`c')a\n") ≡ done (codes "b\n") (codes "m4:a.m4:1: Warning: excess arguments to builtin `define' ignored\n") 2
+excess_arguments : over_a usual (codes "define(`a',`b',`c')a\n")
+    ≡ done (codes "b\n") (codes "m4:a.m4:1: Warning: excess arguments to builtin `define' ignored\n") 2
 unfolding digits
 excess_arguments = refl
 
@@ -215,17 +217,21 @@ unfolding digits
 a_stack_is_unwound = refl
 
 -- comparisons with more than one pair, and with one argument too many
-pairs_are_compared : over_a usual (codes "ifelse(a,b,`1',c,c,`2',`3') ifelse(a,b,`1',`2') ifelse(a,b,c,d,e)\n") ≡ done (codes "2 2 d\n") (codes "m4:a.m4:1: Warning: excess arguments to builtin `ifelse' ignored\n") 3
+pairs_are_compared : over_a usual (codes "ifelse(a,b,`1',c,c,`2',`3') ifelse(a,b,`1',`2') ifelse(a,b,c,d,e)\n")
+    ≡ done (codes "2 2 d\n") (codes "m4:a.m4:1: Warning: excess arguments to builtin `ifelse' ignored\n") 3
 unfolding digits
 pairs_are_compared = refl
 
 -- calls by names that are arguments
-calls_by_name : over_a usual (codes "indir(`define',`a b',`<$0:$1>')indir(`a b',`x') builtin(`shift',`p',`q') indir(`no')\n") ≡ done (codes "<a b:x> q \n") (codes "m4:a.m4:1: Warning: undefined macro `no'\n") 4
+calls_by_name : over_a usual
+    (codes "indir(`define',`a b',`<$0:$1>')indir(`a b',`x') builtin(`shift',`p',`q') indir(`no')\n")
+    ≡ done (codes "<a b:x> q \n") (codes "m4:a.m4:1: Warning: undefined macro `no'\n") 4
 unfolding digits
 calls_by_name = refl
 
 -- the definitions of several names
-definitions_are_joined : over_a usual (codes "define(`x',`1')define(`y',defn(`x',`dnl',`x'))y\n") ≡ done (codes "11\n") (codes "m4:a.m4:1: Warning: builtin dropped from text\n") 4
+definitions_are_joined : over_a usual (codes "define(`x',`1')define(`y',defn(`x',`dnl',`x'))y\n")
+    ≡ done (codes "11\n") (codes "m4:a.m4:1: Warning: builtin dropped from text\n") 4
 unfolding digits
 definitions_are_joined = refl
 
@@ -235,7 +241,8 @@ unfolding digits
 a_list_is_reversed = refl
 
 -- definitions are shown by the order of their names
-definitions_are_shown : over_a usual (codes "define(`b',`2')define(`a',`1')dumpdef(`b',`a',`dnl',`z')\n") ≡ done (codes "\n") (codes "m4:a.m4:1: Warning: undefined macro `z'\na:\t`1'\nb:\t`2'\ndnl:\t<dnl>\n") 3
+definitions_are_shown : over_a usual (codes "define(`b',`2')define(`a',`1')dumpdef(`b',`a',`dnl',`z')\n")
+    ≡ done (codes "\n") (codes "m4:a.m4:1: Warning: undefined macro `z'\na:\t`1'\nb:\t`2'\ndnl:\t<dnl>\n") 3
 unfolding digits
 definitions_are_shown = refl
 

@@ -23,7 +23,8 @@ unfolding digits
 quoted_commas = refl
 
 -- of two definitions in an argument none is left
-two_definitions_dropped : over_a usual (codes "define(`x',defn(`len')defn(`incr'))x|x(`abc')\n") ≡ done (codes "|\n") (codes "m4:a.m4:1: Warning: builtin dropped from text\n") 5
+two_definitions_dropped : over_a usual (codes "define(`x',defn(`len')defn(`incr'))x|x(`abc')\n")
+    ≡ done (codes "|\n") (codes "m4:a.m4:1: Warning: builtin dropped from text\n") 5
 unfolding digits
 two_definitions_dropped = refl
 

@@ -51,5 +51,6 @@ unfolding digits
 parenthesis_that_comments = refl
 
 -- the first and the last letter and digit belong to names, and so does an underscore; a digit begins none
-bytes_of_names : over_a usual (codes "define(`azAZ_09',`x')azAZ_09 zazAZ_09 azAZ_090 define(`_',`y')_ _0 0_\n") ≡ done (codes "x zazAZ_09 azAZ_090 y _0 0y\n") [] 5
+bytes_of_names : over_a usual (codes "define(`azAZ_09',`x')azAZ_09 zazAZ_09 azAZ_090 define(`_',`y')_ _0 0_\n")
+    ≡ done (codes "x zazAZ_09 azAZ_090 y _0 0y\n") [] 5
 bytes_of_names = refl

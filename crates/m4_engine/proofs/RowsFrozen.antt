@@ -61,9 +61,13 @@ decided = refl
 
 -- the frozen text of a run that changes the delimiters
 delimiters_text : List ℕ
-delimiters_text = codes "# m4 frozen state\nV1\nQ1,1\n[]\nC0,0\n\nF8,8\n__file____file__\nT7,0\n__gnu__\nF8,8\n__line____line__\nT8,0\n__unix__\nF7,7\nbuiltinbuiltin\nF9,9\nchangecomchangecom\nF11,11\nchangequotechangequote\nF4,4\ndecrdecr\nF6,6\n"
-    ++ codes "definedefine\nF4,4\ndefndefn\nF6,6\ndivertdivert\nF6,6\ndivnumdivnum\nF3,3\ndnldnl\nF7,7\ndumpdefdumpdef\nF8,8\nerrprinterrprint\nF4,4\nevaleval\nF5,5\nifdefifdef\nF6,6\nifelseifelse\nF4,4\nincrincr\nF5,5\nindexindex\nF5,5\n"
-    ++ codes "indirindir\nF3,3\nlenlen\nF6,6\nm4exitm4exit\nF6,6\nm4wrapm4wrap\nF6,6\npopdefpopdef\nF7,7\npushdefpushdef\nF5,5\nshiftshift\nF6,6\nsubstrsubstr\nF8,8\ntranslittranslit\nF8,8\nundefineundefine\nF8,8\nundivertundivert\n"
+delimiters_text =
+    codes
+    "# m4 frozen state\nV1\nQ1,1\n[]\nC0,0\n\nF8,8\n__file____file__\nT7,0\n__gnu__\nF8,8\n__line____line__\nT8,0\n__unix__\nF7,7\nbuiltinbuiltin\nF9,9\nchangecomchangecom\nF11,11\nchangequotechangequote\nF4,4\ndecrdecr\nF6,6\n"
+    ++ codes
+    "definedefine\nF4,4\ndefndefn\nF6,6\ndivertdivert\nF6,6\ndivnumdivnum\nF3,3\ndnldnl\nF7,7\ndumpdefdumpdef\nF8,8\nerrprinterrprint\nF4,4\nevaleval\nF5,5\nifdefifdef\nF6,6\nifelseifelse\nF4,4\nincrincr\nF5,5\nindexindex\nF5,5\n"
+    ++ codes
+    "indirindir\nF3,3\nlenlen\nF6,6\nm4exitm4exit\nF6,6\nm4wrapm4wrap\nF6,6\npopdefpopdef\nF7,7\npushdefpushdef\nF5,5\nshiftshift\nF6,6\nsubstrsubstr\nF8,8\ntranslittranslit\nF8,8\nundefineundefine\nF8,8\nundivertundivert\n"
     ++ codes "# End of frozen state file\n"
 
 delimiters_frozen : (over_a freezing (codes "changequote([,])changecom(,)dnl\n")).frozen ≡ Some delimiters_text
@@ -86,34 +90,46 @@ unfolding steps.file_at steps.version_at steps.directives_at steps.directive_at 
 issued_text = refl
 
 -- a frozen file of a newer version: nothing is read
-newer_file : run usual (from (codes "# c\n\nV2\n")) (Opened (codes "a.m4") (codes "x") ∷ []) ≡ record (done [] [] 0) { reason = Ends (causes.Frozen (record { kind = kinds.Newer; offset = 6 })); status = 63 }
+newer_file : run usual (from (codes "# c\n\nV2\n")) (Opened (codes "a.m4") (codes "x") ∷ [])
+    ≡ record (done [] [] 0) { reason = Ends (causes.Frozen (record { kind = kinds.Newer; offset = 6 })); status = 63 }
 unfolding steps.file_at steps.version_at steps.directives_at steps.directive_at steps.length_at steps.string_at
 newer_file = refl
 
 -- a builtin of another m4
 placeholder : run freezing (from (codes "V1\nF6,6\nregexpregexp\n")) (Opened (codes "b.m4") (codes "regexp(`a',`b')!\n") ∷ [])
-    ≡ record (done (codes "!\n") (codes "m4:b.m4:1: Warning: builtin `regexp' requested by frozen file is not supported\n") 1) { frozen = Some (codes "# m4 frozen state\nV1\nF6,6\nregexpregexp\n# End of frozen state file\n") }
+    ≡ record (done (codes "!\n") (codes
+    "m4:b.m4:1: Warning: builtin `regexp' requested by frozen file is not supported\n") 1)
+    { frozen = Some (codes "# m4 frozen state\nV1\nF6,6\nregexpregexp\n# End of frozen state file\n") }
 unfolding digits steps.file_at steps.version_at steps.directives_at steps.directive_at steps.length_at steps.string_at
 placeholder = refl
 
 -- without a list it is called too
 placeholder_alone : run freezing (from (codes "V1\nF6,6\nregexpregexp\n")) (Opened (codes "b.m4") (codes "regexp!\n") ∷ [])
-    ≡ record (done (codes "!\n") (codes "m4:b.m4:1: Warning: builtin `regexp' requested by frozen file is not supported\n") 1) { frozen = Some (codes "# m4 frozen state\nV1\nF6,6\nregexpregexp\n# End of frozen state file\n") }
+    ≡ record (done (codes "!\n") (codes
+    "m4:b.m4:1: Warning: builtin `regexp' requested by frozen file is not supported\n") 1)
+    { frozen = Some (codes "# m4 frozen state\nV1\nF6,6\nregexpregexp\n# End of frozen state file\n") }
 unfolding digits steps.file_at steps.version_at steps.directives_at steps.directive_at steps.length_at steps.string_at
 placeholder_alone = refl
 
 -- an older file that names a builtin which m4r has gained
-older_file : run freezing (from (codes "V1\nF4,4\nevaleval\n")) (Opened (codes "b.m4") (codes "eval(`1+1')\n") ∷ []) ≡ record (done (codes "2\n") [] 1) { frozen = Some (codes "# m4 frozen state\nV1\nF4,4\nevaleval\n# End of frozen state file\n") }
+older_file : run freezing (from (codes "V1\nF4,4\nevaleval\n")) (Opened (codes "b.m4") (codes "eval(`1+1')\n") ∷ [])
+    ≡ record (done (codes "2\n") [] 1)
+    { frozen = Some (codes "# m4 frozen state\nV1\nF4,4\nevaleval\n# End of frozen state file\n") }
 unfolding digits int_wrap steps.file_at steps.version_at steps.directives_at steps.directive_at steps.length_at steps.string_at
 older_file = refl
 
 -- without parameters its name is text
-older_name : run freezing (from (codes "V1\nF4,4\nevaleval\n")) (Opened (codes "b.m4") (codes "eval\n") ∷ []) ≡ record (done (codes "eval\n") [] 0) { frozen = Some (codes "# m4 frozen state\nV1\nF4,4\nevaleval\n# End of frozen state file\n") }
+older_name : run freezing (from (codes "V1\nF4,4\nevaleval\n")) (Opened (codes "b.m4") (codes "eval\n") ∷ [])
+    ≡ record (done (codes "eval\n") [] 0)
+    { frozen = Some (codes "# m4 frozen state\nV1\nF4,4\nevaleval\n# End of frozen state file\n") }
 unfolding digits int_wrap steps.file_at steps.version_at steps.directives_at steps.directive_at steps.length_at steps.string_at
 older_name = refl
 
 -- what was reloaded is frozen again, with what was defined since
-frozen_again : run freezing (from (codes "V1\nF6,6\ndefinedefine\nT1,1\nab\n")) (Opened (codes "b.m4") (codes "a define(`c',`d$1')a\n") ∷ []) ≡ record (done (codes "b b\n") [] 3) { frozen = Some (codes "# m4 frozen state\nV1\nT1,1\nab\nT1,3\ncd$1\nF6,6\ndefinedefine\n# End of frozen state file\n") }
+frozen_again : run freezing (from (codes "V1\nF6,6\ndefinedefine\nT1,1\nab\n"))
+    (Opened (codes "b.m4") (codes "a define(`c',`d$1')a\n") ∷ [])
+    ≡ record (done (codes "b b\n") [] 3)
+    { frozen = Some (codes "# m4 frozen state\nV1\nT1,1\nab\nT1,3\ncd$1\nF6,6\ndefinedefine\n# End of frozen state file\n") }
 unfolding digits steps.file_at steps.version_at steps.directives_at steps.directive_at steps.length_at steps.string_at
 frozen_again = refl
 
@@ -129,9 +145,13 @@ discarded = refl
 
 -- the frozen text of a run that defines a greeting and puts nothing out
 greeting_text : List ℕ
-greeting_text = codes "# m4 frozen state\nV1\nF8,8\n__file____file__\nT7,0\n__gnu__\nF8,8\n__line____line__\nT8,0\n__unix__\nF7,7\nbuiltinbuiltin\nF9,9\nchangecomchangecom\nF11,11\nchangequotechangequote\nF4,4\ndecrdecr\nF6,6\ndefinedefine\nF4,4\n"
-    ++ codes "defndefn\nF6,6\ndivertdivert\nF6,6\ndivnumdivnum\nF3,3\ndnldnl\nF7,7\ndumpdefdumpdef\nF8,8\nerrprinterrprint\nF4,4\nevaleval\nT2,9\nhiHello $1.\nF5,5\nifdefifdef\nF6,6\nifelseifelse\nF4,4\nincrincr\nF5,5\nindexindex\nF5,5\n"
-    ++ codes "indirindir\nF3,3\nlenlen\nF6,6\nm4exitm4exit\nF6,6\nm4wrapm4wrap\nF6,6\npopdefpopdef\nF7,7\npushdefpushdef\nF5,5\nshiftshift\nF6,6\nsubstrsubstr\nF8,8\ntranslittranslit\nF8,8\nundefineundefine\nF8,8\nundivertundivert\n"
+greeting_text =
+    codes
+    "# m4 frozen state\nV1\nF8,8\n__file____file__\nT7,0\n__gnu__\nF8,8\n__line____line__\nT8,0\n__unix__\nF7,7\nbuiltinbuiltin\nF9,9\nchangecomchangecom\nF11,11\nchangequotechangequote\nF4,4\ndecrdecr\nF6,6\ndefinedefine\nF4,4\n"
+    ++ codes
+    "defndefn\nF6,6\ndivertdivert\nF6,6\ndivnumdivnum\nF3,3\ndnldnl\nF7,7\ndumpdefdumpdef\nF8,8\nerrprinterrprint\nF4,4\nevaleval\nT2,9\nhiHello $1.\nF5,5\nifdefifdef\nF6,6\nifelseifelse\nF4,4\nincrincr\nF5,5\nindexindex\nF5,5\n"
+    ++ codes
+    "indirindir\nF3,3\nlenlen\nF6,6\nm4exitm4exit\nF6,6\nm4wrapm4wrap\nF6,6\npopdefpopdef\nF7,7\npushdefpushdef\nF5,5\nshiftshift\nF6,6\nsubstrsubstr\nF8,8\ntranslittranslit\nF8,8\nundefineundefine\nF8,8\nundivertundivert\n"
     ++ codes "# End of frozen state file\n"
 
 greeting_frozen : over_a freezing (codes "define(`hi',`Hello $1.')dnl\n") ≡ record (done [] [] 2) { frozen = Some greeting_text }
@@ -144,7 +164,8 @@ unfolding digits greeting_text steps.file_at steps.version_at steps.directives_a
 greeting_reloaded = refl
 
 -- a run that freezes keeps its diversions
-diversions_are_frozen : run freezing (from (codes "V1\nD2,4\ntwo\n\n")) (Opened (codes "b.m4") (codes "more\n") ∷ []) ≡ record (done [] [] 0) { frozen = Some (codes "# m4 frozen state\nV1\nD2,9\ntwo\nmore\n\n# End of frozen state file\n") }
+diversions_are_frozen : run freezing (from (codes "V1\nD2,4\ntwo\n\n")) (Opened (codes "b.m4") (codes "more\n") ∷ [])
+    ≡ record (done [] [] 0) { frozen = Some (codes "# m4 frozen state\nV1\nD2,9\ntwo\nmore\n\n# End of frozen state file\n") }
 unfolding digits steps.file_at steps.version_at steps.directives_at steps.directive_at steps.length_at steps.string_at
 diversions_are_frozen = refl
 

@@ -20,7 +20,9 @@ turns_on (suc k) (Goes c) = turns_on k (moved c)
 -- what a file has made after its first turns: a name, a blank, a call whose list opens, its string, the end of the
 -- list, and a name again
 abbrev made_in_turns : ℕ → RunSoFar
-made_in_turns k = made_by (turns_on k (Goes (first_moment (expansion_of (limits_of usual) (so_far_from (fresh false) []) (file_pending (codes "a.m4") (codes "ab errprint(`c')d\n") false)))))
+made_in_turns k = made_by (turns_on k (Goes
+    (first_moment (expansion_of (limits_of usual) (so_far_from (fresh false) [])
+    (file_pending (codes "a.m4") (codes "ab errprint(`c')d\n") false)))))
 
 -- all before the call's list ends is output
 output_before_the_message : (made_in_turns 4).output ≡ codes "ab "

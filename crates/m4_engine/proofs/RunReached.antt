@@ -58,10 +58,12 @@ end_needs (Closed s) o' h w =
     let e : OutOfBound ≡ Ends causes.Done = sym (ap (λ (x : Outcome Expansion Ended). (ended_of x).reason) h.1) ∙ w in
     cc
 
-ended_needs : (limits : Limits) (r : RunSoFar) (name x : List ℕ) → (file limits r name x).reason ≡ Ends causes.Done → Before (expand_input limits r (file_pending name x true)) (file limits r name x)
+ended_needs : (limits : Limits) (r : RunSoFar) (name x : List ℕ) → (file limits r name x).reason ≡ Ends causes.Done
+    → Before (expand_input limits r (file_pending name x true)) (file limits r name x)
 ended_needs limits r name x w =
     let s : Expansion = expansion_of limits r (file_pending name x true) in
-    let P : List ℕ → Type 0 = λ y. (file limits r name y).reason ≡ Ends causes.Done → Before (expand_input limits r (file_pending name x true)) (file limits r name y) in
+    let P : List ℕ → Type 0 = λ y. (file limits r name y).reason ≡ Ends causes.Done
+    → Before (expand_input limits r (file_pending name x true)) (file limits r name y) in
     subst P (append-nil x) (λ v. end_needs (expand s) (expand (longer_level [] false s)) (law [] false s refl) v) w
 
 -- only the end of an input lets a run go on
@@ -97,13 +99,16 @@ record SettledBefore (limits : Limits) (p q : Progress) (name taken : List ℕ) 
   output : IsBeginning (settled_in limits p name taken).output (q.so_far).output
   messages : IsBeginning (settled_in limits p name taken).messages (q.so_far).messages
 
-opened_before : (limits : Limits) (p : Progress) (n bytes : List ℕ) (v : Option EndReason) → v ≡ None → (after_source limits (Opened n bytes) (record p { over = v })).over ≡ None → SettledBefore limits (record p { over = v }) (after_source limits (Opened n bytes) (record p { over = v })) n bytes
+opened_before : (limits : Limits) (p : Progress) (n bytes : List ℕ) (v : Option EndReason) → v ≡ None
+    → (after_source limits (Opened n bytes) (record p { over = v })).over ≡ None
+    → SettledBefore limits (record p { over = v }) (after_source limits (Opened n bytes) (record p { over = v })) n bytes
 opened_before limits p n bytes (Some h) e g = cc
 opened_before limits p n bytes None e g =
     let k = ended_needs limits p.so_far n bytes (only_done _ g) in
     record { undecided = k.0; output = ((k.1).more, (k.1).output); messages = ((k.1).reported, (k.1).messages) }
 
-unopened_before : (limits : Limits) (p : Progress) (n : List ℕ) (v : Option EndReason) → v ≡ None → SettledBefore limits (record p { over = v }) (after_source limits (Unopened n) (record p { over = v })) n []
+unopened_before : (limits : Limits) (p : Progress) (n : List ℕ) (v : Option EndReason) → v ≡ None
+    → SettledBefore limits (record p { over = v }) (after_source limits (Unopened n) (record p { over = v })) n []
 unopened_before limits p n (Some h) e = cc
 unopened_before limits p n None e = record {
   undecided = refl;
@@ -124,9 +129,19 @@ record Last {R : Type 0} (script : R → Option Script) (old new : List (RunSour
 next_last : (m n : ℕ) → m ≡ n + 1 → suc m ≡ suc n + 1
 next_last m n e = omega (arith, e)
 
-one_last : {R : Type 0} (script : R → Option Script) (x y : RunSource R) (limits : Limits) (p : Progress) (s : Source) → IsRead script x y s → p.over ≡ None → (after_source limits s p).over ≡ None → Last script (x ∷ []) (y ∷ []) limits p (after_source limits s p)
+one_last : {R : Type 0} (script : R → Option Script) (x y : RunSource R) (limits : Limits) (p : Progress) (s : Source)
+    → IsRead script x y s → p.over ≡ None → (after_source limits s p).over ≡ None
+    → Last script (x ∷ []) (y ∷ []) limits p (after_source limits s p)
 one_last script (sources.Opened name r) (sources.Opened n b) limits p (Opened m bytes) i e g =
-    record { before = []; name = m; taken = bytes; place = ((i.0, i.1, i.2), refl); settled = opened_before limits p m bytes p.over e g; at_end = i.3; last = refl }
+    record {
+      before = [];
+      name = m;
+      taken = bytes;
+      place = ((i.0, i.1, i.2), refl);
+      settled = opened_before limits p m bytes p.over e g;
+      at_end = i.3;
+      last = refl;
+    }
 one_last script (sources.Unopened name) (sources.Unopened n) limits p (Unopened m) i e g =
     record { before = []; name = m; taken = []; place = ((i.0, i.1, refl), refl); settled = unopened_before limits p m p.over e; at_end = tt; last = refl }
 one_last script (sources.Opened name r) (sources.Opened n b) limits p (Unopened m) i e g = absurd i
@@ -134,12 +149,22 @@ one_last script (sources.Opened name r) (sources.Unopened n) limits p s i e g = 
 one_last script (sources.Unopened name) (sources.Opened n b) limits p s i e g = absurd i
 one_last script (sources.Unopened name) (sources.Unopened n) limits p (Opened m bytes) i e g = absurd i
 
-last_is : {R : Type 0} (script : R → Option Script) (old new : List (RunSource R)) (ss : List Source) (limits : Limits) (p : Progress) → old ≢ [] → AreRead script old new ss → (after_sources limits ss p).over ≡ None → Last script old new limits p (after_sources limits ss p)
+last_is : {R : Type 0} (script : R → Option Script) (old new : List (RunSource R)) (ss : List Source) (limits : Limits)
+    (p : Progress) → old ≢ [] → AreRead script old new ss → (after_sources limits ss p).over ≡ None
+    → Last script old new limits p (after_sources limits ss p)
 last_is script [] new ss limits p n h g = absurd (n refl)
 last_is script (x ∷ []) (y ∷ []) (s ∷ []) limits p n h g = one_last script x y limits p s h.0 (open_before limits s p p.over refl g) g
 last_is script (x ∷ x2 ∷ xs) (y ∷ ys) (s ∷ ss) limits p n h g =
     let k = last_is script (x2 ∷ xs) ys ss limits (after_source limits s p) (λ e. cc) h.1 g in
-    record { before = s ∷ k.before; name = k.name; taken = k.taken; place = (h.0, k.place); settled = k.settled; at_end = k.at_end; last = next_last _ _ k.last }
+    record {
+      before = s ∷ k.before;
+      name = k.name;
+      taken = k.taken;
+      place = (h.0, k.place);
+      settled = k.settled;
+      at_end = k.at_end;
+      last = next_last _ _ k.last;
+    }
 last_is script (x ∷ xs) [] ss limits p n h g = absurd h
 last_is script (x ∷ []) (y ∷ y2 ∷ ys) (s ∷ ss) limits p n h g = absurd h.1
 last_is script (x ∷ xs) (y ∷ ys) [] limits p n h g = absurd h
@@ -148,7 +173,8 @@ last_is script (x ∷ []) (y ∷ []) (s ∷ s2 ∷ ss) limits p n h g = absurd h
 -- ---- the end of a run
 
 -- what the end of a run wrote
-end_wrote : (freezes : Bool) (old new : SessionState) (w : Contents) (r : Result Unit Stop) → IsOpen old → EndGives freezes old new w r → (o m : List ℕ) × HasWritten o m w
+end_wrote : (freezes : Bool) (old new : SessionState) (w : Contents) (r : Result Unit Stop) → IsOpen old
+    → EndGives freezes old new w r → (o m : List ℕ) × HasWritten o m w
 end_wrote freezes old new w (Ok done) l h = (_, _, record { output = h.output; messages = h.messages })
 end_wrote freezes old new w (Err stops.Finished) l h = absurd (h.closed l)
 end_wrote freezes old new w (Err (stops.Ended causes.Done)) l h = absurd h
@@ -164,7 +190,8 @@ end_wrote freezes old new w (Err (stops.Ended causes.ExpansionLimit)) l h = (_, 
 end_wrote freezes old new w (Err (stops.Ended causes.NestingLimit)) l h = (_, _, record { output = (h.0).output; messages = (h.0).messages })
 
 -- what was settled, and more
-more_than : (old mid new : Option (List ℕ)) (x y z : List ℕ) → (b : IsBeginning x y) → mid ≡ with_bytes old y → new ≡ with_bytes mid z → new ≡ with_bytes old (x ++ (b.0 ++ z))
+more_than : (old mid new : Option (List ℕ)) (x y z : List ℕ) → (b : IsBeginning x y) → mid ≡ with_bytes old y
+    → new ≡ with_bytes mid z → new ≡ with_bytes old (x ++ (b.0 ++ z))
 more_than old mid new x y z b e f = more_after old mid new x b.0 z (e ∙ ap (with_bytes old) b.1) f
 
 -- the sources were read, and then the run was closed
@@ -181,7 +208,8 @@ module _ {R : Type 0} (script : R → Option Script) (old new : List (RunSource 
   abbrev AtEnd : Cause → Type 1
   AtEnd cause = (x : SettledSoFar) (all : Type 0) (left : Option Script) (closed : Type 0) → all × IsAtEnd left × closed → EndedBy cause x all left closed
 
-  past_end : (cause : Cause) → ((x : SettledSoFar) (w : Contents) → ExactAtFault cause x w) → AtEnd cause → (r : Result Unit Stop) → EndGives freezes s1 s2 (writers out out' reported reported') r → AllAsked cause
+  past_end : (cause : Cause) → ((x : SettledSoFar) (w : Contents) → ExactAtFault cause x w) → AtEnd cause
+      → (r : Result Unit Stop) → EndGives freezes s1 s2 (writers out out' reported reported') r → AllAsked cause
   past_end cause k j r g =
       let q = end_wrote freezes s1 s2 (writers out out' reported reported') r l g in
       let p = last_is script old new h.0 s.limits (progress_of s) n h.1 goes_on in (
@@ -209,15 +237,20 @@ module _ {R : Type 0} (script : R → Option Script) (old new : List (RunSource 
         refl,
       )
 
-  reached_end : (cause : Cause) → ((x : SettledSoFar) (w : Contents) → ExactAtFault cause x w) → AtEnd cause → (r : Result Unit Stop) → EndGives freezes s1 s2 (writers out out' reported reported') r → Reached script old new s.limits (progress_of s) cause (writers out0 out' reported0 reported')
+  reached_end : (cause : Cause) → ((x : SettledSoFar) (w : Contents) → ExactAtFault cause x w) → AtEnd cause
+      → (r : Result Unit Stop) → EndGives freezes s1 s2 (writers out out' reported reported') r
+      → Reached script old new s.limits (progress_of s) cause (writers out0 out' reported0 reported')
   reached_end cause k j r g = (past_end cause k j r g).0
 
-  pub closed_reached : (wrapped : Bool) (w : Three (Option (List ℕ))) (r : Result Unit Stop) → w.two ≡ writers out out' reported reported' → r ≡ Ok tt → CloseGives freezes s1 s2 w r → RunReached script old new s (writers out0 out' reported0 reported') (Ok wrapped)
+  pub closed_reached : (wrapped : Bool) (w : Three (Option (List ℕ))) (r : Result Unit Stop)
+      → w.two ≡ writers out out' reported reported' → r ≡ Ok tt → CloseGives freezes s1 s2 w r
+      → RunReached script old new s (writers out0 out' reported0 reported') (Ok wrapped)
   closed_reached wrapped w r e f g =
       let q = past_end causes.Done (λ x w. tt) (λ x a l c h. inr h) r (subst (λ v. EndGives freezes s1 s2 v r) e (close_ends freezes s1 s2 w r g)) in
       record { sources = h.0; read = h.1; reached = q.0; all = q.1 }
 
-  end_by : (e : Stop) → EndGives freezes s1 s2 (writers out out' reported reported') (Err e) → RunReached script old new s (writers out0 out' reported0 reported') (Err e)
+  end_by : (e : Stop) → EndGives freezes s1 s2 (writers out out' reported reported') (Err e)
+      → RunReached script old new s (writers out0 out' reported0 reported') (Err e)
   end_by stops.Finished g = absurd (g.closed l)
   end_by (stops.Ended causes.Done) g = absurd g
   end_by (stops.Ended (causes.Frozen f)) g = absurd g
@@ -231,13 +264,17 @@ module _ {R : Type 0} (script : R → Option Script) (old new : List (RunSource 
   end_by (stops.Ended causes.ExpansionLimit) g = reached_end causes.ExpansionLimit (λ x w. tt) (λ x a l b h. inr h) (Err (stops.Ended causes.ExpansionLimit)) g
   end_by (stops.Ended causes.NestingLimit) g = reached_end causes.NestingLimit (λ x w. tt) (λ x a l b h. inr h) (Err (stops.Ended causes.NestingLimit)) g
 
-  pub late_reached : (w : Three (Option (List ℕ))) (e : Stop) (q : Result Unit Stop) (r : Result Bool Stop) → w.two ≡ writers out out' reported reported' → q ≡ Err e → r ≡ Err e → CloseGives freezes s1 s2 w q → RunReached script old new s (writers out0 out' reported0 reported') r
+  pub late_reached : (w : Three (Option (List ℕ))) (e : Stop) (q : Result Unit Stop) (r : Result Bool Stop)
+      → w.two ≡ writers out out' reported reported' → q ≡ Err e → r ≡ Err e → CloseGives freezes s1 s2 w q
+      → RunReached script old new s (writers out0 out' reported0 reported') r
   late_reached w e q r i f k g =
       subst (RunReached script old new s (writers out0 out' reported0 reported')) (sym k)
-      (end_by e (subst (EndGives freezes s1 s2 (writers out out' reported reported')) f (subst (λ v. EndGives freezes s1 s2 v q) i (close_ends freezes s1 s2 w q g))))
+      (end_by e (subst (EndGives freezes s1 s2 (writers out out' reported reported')) f
+      (subst (λ v. EndGives freezes s1 s2 v q) i (close_ends freezes s1 s2 w q g))))
 
 -- the run ended within a source
-early_by : {R : Type 0} (script : R → Option Script) (old new : List (RunSource R)) (s s1 : SessionState) (w : Contents) (e : Stop) → IsLeft {A = Unit} s1 (Err e) → SourcesGive script old new s s1 w (Err e) → RunReached script old new s w (Err e)
+early_by : {R : Type 0} (script : R → Option Script) (old new : List (RunSource R)) (s s1 : SessionState) (w : Contents)
+    (e : Stop) → IsLeft {A = Unit} s1 (Err e) → SourcesGive script old new s s1 w (Err e) → RunReached script old new s w (Err e)
 early_by script old new s s1 w stops.Finished l h = h
 early_by script old new s s1 w (stops.Ended causes.Done) l h = absurd l
 early_by script old new s s1 w (stops.Ended (causes.Exited n)) l h = h
@@ -251,14 +288,17 @@ early_by script old new s s1 w (stops.Ended causes.Read) l h = h
 early_by script old new s s1 w (stops.Ended causes.Write) l h = h
 early_by script old new s s1 w (stops.Ended causes.OutOfMemory) l h = h
 
-pub early_reached : {R : Type 0} (script : R → Option Script) (old new : List (RunSource R)) (s s1 : SessionState) (w : Contents) (e : Stop) (q : Result Unit Stop) (r : Result Bool Stop) → q ≡ Err e → r ≡ Err e → IsLeft s1 q → SourcesGive script old new s s1 w q → RunReached script old new s w r
+pub early_reached : {R : Type 0} (script : R → Option Script) (old new : List (RunSource R)) (s s1 : SessionState)
+    (w : Contents) (e : Stop) (q : Result Unit Stop) (r : Result Bool Stop) → q ≡ Err e → r ≡ Err e → IsLeft s1 q
+    → SourcesGive script old new s s1 w q → RunReached script old new s w r
 early_reached script old new s s1 w e q r f k l h =
     subst (RunReached script old new s w) (sym k) (early_by script old new s s1 w e (subst (IsLeft s1) f l) (subst (SourcesGive script old new s s1 w) f h))
 
 -- ---- the whole run
 
 -- it did not begin: nothing was read
-none_by : {R : Type 0} (script : R → Option Script) (xs : List (RunSource R)) (o : Options) (start : Start) (w : Contents) (e : Stop) (status : ℕ) → IsBegun o (Err e) → OnePassBy script xs xs o start (ending_by status (Err e)).cause w
+none_by : {R : Type 0} (script : R → Option Script) (xs : List (RunSource R)) (o : Options) (start : Start)
+    (w : Contents) (e : Stop) (status : ℕ) → IsBegun o (Err e) → OnePassBy script xs xs o start (ending_by status (Err e)).cause w
 none_by script xs o start w stops.Finished status h = absurd h
 none_by script xs o start w (stops.Ended (causes.Frozen f)) status h = refl
 none_by script xs o start w (stops.Ended causes.Write) status h = inl refl
@@ -272,26 +312,35 @@ none_by script xs o start w (stops.Ended causes.ExpansionLimit) status h = absur
 none_by script xs o start w (stops.Ended causes.NestingLimit) status h = absurd h
 none_by script xs o start w (stops.Ended causes.Read) status h = absurd h
 
-pub never_passed : {R : Type 0} (script : R → Option Script) (xs : List (RunSource R)) (o : Options) (start : Start) (w : Contents) (st : Result SessionState Stop) (e : Stop) (status : ℕ) (d : Ending) → st ≡ Err e → d ≡ ending_by status (Err e) → IsBegun o st → OnePass script xs xs o start d.cause w
+pub never_passed : {R : Type 0} (script : R → Option Script) (xs : List (RunSource R)) (o : Options) (start : Start)
+    (w : Contents) (st : Result SessionState Stop) (e : Stop) (status : ℕ) (d : Ending) → st ≡ Err e
+    → d ≡ ending_by status (Err e) → IsBegun o st → OnePass script xs xs o start d.cause w
 never_passed script xs o start w st e status d f g b = λ n.
     subst (λ (x : Ending). OnePassBy script xs xs o start x.cause w) (sym g) (none_by script xs o start w e status (subst (IsBegun o) f b))
 
 -- it began: its start's issued text was written before
-module _ {R : Type 0} (script : R → Option Script) (old new : List (RunSource R)) (o : Options) (k : State) (issued : List ℕ) (out0 out out' reported reported' : Option (List ℕ)) (e : out ≡ with_bytes out0 issued) where
-  start_settled : (before : List Source) (name x : List ℕ) → settled_after (limits_of o) (begun (From k issued)) before name x ≡ in_front issued [] (settled_after (limits_of o) (progress_of (session_from o k)) before name x)
+module _ {R : Type 0} (script : R → Option Script) (old new : List (RunSource R)) (o : Options) (k : State)
+    (issued : List ℕ) (out0 out out' reported reported' : Option (List ℕ)) (e : out ≡ with_bytes out0 issued) where
+  start_settled : (before : List Source) (name x : List ℕ)
+      → settled_after (limits_of o) (begun (From k issued)) before name x
+      ≡ in_front issued [] (settled_after (limits_of o) (progress_of (session_from o k)) before name x)
   start_settled before name x =
       ap (λ (p : Progress). settled_after (limits_of o) p before name x) (begun_is o k issued)
       ∙ ap (λ (p : Progress). settled_in (limits_of o) p name x) (sources_after issued [] (limits_of o) before (progress_of (session_from o k)))
       ∙ in_front_is issued [] (limits_of o) (after_sources (limits_of o) before (progress_of (session_from o k))) name x
 
-  start_closed : (before : List Source) (name x : List ℕ) (cause : Cause) → EndsOrIsLast old (limits_of o) (progress_of (session_from o k)) before name x cause → EndsOrIsLast old (limits_of o) (begun (From k issued)) before name x cause
+  start_closed : (before : List Source) (name x : List ℕ) (cause : Cause)
+      → EndsOrIsLast old (limits_of o) (progress_of (session_from o k)) before name x cause
+      → EndsOrIsLast old (limits_of o) (begun (From k issued)) before name x cause
   start_closed before name x cause (inr h) = inr h
   start_closed before name x cause (inl h) =
       let ss : List Source = before ++ Opened name x ∷ [] in
       inl (ap (λ (p : Progress). (after_sources (limits_of o) ss p).over) (begun_is o k issued)
       ∙ ap (λ (p : Progress). p.over) (sources_after issued [] (limits_of o) ss (progress_of (session_from o k))) ∙ h)
 
-  abbrev from_start : (cause : Cause) → Reached script old new (limits_of o) (progress_of (session_from o k)) cause (writers out out' reported reported') → Reached script old new (limits_of o) (begun (From k issued)) cause (writers out0 out' reported reported')
+  abbrev from_start : (cause : Cause) → Reached script old new (limits_of o) (progress_of (session_from o k)) cause
+      (writers out out' reported reported')
+      → Reached script old new (limits_of o) (begun (From k issued)) cause (writers out0 out' reported reported')
   from_start cause r = record {
     before = r.before;
     name = r.name;
@@ -301,10 +350,13 @@ module _ {R : Type 0} (script : R → Option Script) (old new : List (RunSource 
         (settled_after (limits_of o) (progress_of (session_from o k)) r.before r.name)
         (settled_after (limits_of o) (begun (From k issued)) r.before r.name) cause r.taken
         (start_settled r.before r.name) r.at;
-    ended = ended_map cause _ _ _ _ _ _ _ (ap (λ (y : SettledSoFar). y.reason) (start_settled r.before r.name r.taken)) refl (start_closed r.before r.name r.taken cause) r.ended;
+    ended = ended_map cause _ _ _ _ _ _ _ (ap (λ (y : SettledSoFar). y.reason) (start_settled r.before r.name r.taken))
+        refl (start_closed r.before r.name r.taken cause) r.ended;
   }
 
-  passed_by : (status : ℕ) (r : Result Bool Stop) → RunReached script old new (session_from o k) (writers out out' reported reported') r → OnePassBy script old new o (From k issued) (ending_by status r).cause (writers out0 out' reported reported')
+  passed_by : (status : ℕ) (r : Result Bool Stop)
+      → RunReached script old new (session_from o k) (writers out out' reported reported') r
+      → OnePassBy script old new o (From k issued) (ending_by status r).cause (writers out0 out' reported reported')
   passed_by status (Ok wrapped) h =
       record { sources = h.sources; read = h.read; reached = from_start causes.Done h.reached; all = h.all }
   passed_by status (Err stops.Finished) h = absurd h

@@ -47,7 +47,8 @@ use Rattle.m4_engine.proofs.SkippedLines.{all_gone, line_done, line_keeps, line_
 -- ---- the loop over turns
 
 -- so much was written since the loop began, and the expansion goes on from here
-pub record Running (w : Wanted) (e0 : Engine) (p0 : Pending) (out0 reported0 : Option (List ℕ)) (e : Engine) (i : Held) (out reported : Option (List ℕ)) : Type 0 where
+pub record Running (w : Wanted) (e0 : Engine) (p0 : Pending) (out0 reported0 : Option (List ℕ)) (e : Engine) (i : Held)
+    (out reported : Option (List ℕ)) : Type 0 where
   pub o : List ℕ
   pub m : List ℕ
   pub written : HasWritten o m (writers out0 out reported0 reported)
@@ -58,14 +59,17 @@ pub record Running (w : Wanted) (e0 : Engine) (p0 : Pending) (out0 reported0 : O
 none_written : (out reported : Option (List ℕ)) → HasWritten [] [] (writers out out reported reported)
 none_written out reported = record { output = with_bytes-nil out; messages = with_bytes-nil reported }
 
-pub more_written : (o m x y : List ℕ) (out0 out out' reported0 reported reported' : Option (List ℕ)) → HasWritten o m (writers out0 out reported0 reported) → out' ≡ with_bytes out x → reported' ≡ with_bytes reported y → HasWritten (o ++ x) (m ++ y) (writers out0 out' reported0 reported')
+pub more_written : (o m x y : List ℕ) (out0 out out' reported0 reported reported' : Option (List ℕ))
+    → HasWritten o m (writers out0 out reported0 reported) → out' ≡ with_bytes out x → reported' ≡ with_bytes reported y
+    → HasWritten (o ++ x) (m ++ y) (writers out0 out' reported0 reported')
 more_written o m x y out0 out out' reported0 reported reported' h f g = record {
   output = f ∙ ap (λ n. with_bytes n x) h.output ∙ with_bytes-append out0 o x;
   messages = g ∙ ap (λ n. with_bytes n y) h.messages ∙ with_bytes-append reported0 m y;
 }
 
 -- the loop begins at a token
-begins_at_token : (e : Engine) (i : Held) (out reported : Option (List ℕ)) → IsReady i → IsFlushed e → Running wanted.Token e i.pending out reported e i out reported
+begins_at_token : (e : Engine) (i : Held) (out reported : Option (List ℕ)) → IsReady i → IsFlushed e
+    → Running wanted.Token e i.pending out reported e i out reported
 begins_at_token e i out reported r f = record {
   o = [];
   m = [];
@@ -79,7 +83,8 @@ ready_after_line : (i j : Held) → IsReady i → LineGives i j true → IsReady
 ready_after_line i j r h = record { sound = h.1 ∙ r.sound; front = none_is_front (j.pending).definition (line_drops i.pending j.pending h.0) }
 
 -- or after the rest of a line
-begins_after_line : (e : Engine) (i j : Held) (out reported : Option (List ℕ)) → IsReady i → IsFlushed e → LineGives i j true → Running wanted.Line e i.pending out reported e j out reported
+begins_after_line : (e : Engine) (i j : Held) (out reported : Option (List ℕ)) → IsReady i → IsFlushed e
+    → LineGives i j true → Running wanted.Line e i.pending out reported e j out reported
 begins_after_line e i j out reported r f h = record {
   o = [];
   m = [];
@@ -89,7 +94,9 @@ begins_after_line e i j out reported r f h = record {
   ready = ready_after_line i j r h;
 }
 
-pub passed : (w : Wanted) (e0 e e1 : Engine) (p0 : Pending) (i i1 : Held) (out0 reported0 out reported : Option (List ℕ)) → Running w e0 p0 out0 reported0 e i out reported → Passes e e1 i i1 → Running w e0 p0 out0 reported0 e1 i1 out reported
+pub passed : (w : Wanted) (e0 e e1 : Engine) (p0 : Pending) (i i1 : Held)
+    (out0 reported0 out reported : Option (List ℕ)) → Running w e0 p0 out0 reported0 e i out reported → Passes e e1 i i1
+    → Running w e0 p0 out0 reported0 e1 i1 out reported
 passed w e0 e e1 p0 i i1 out0 reported0 out reported r h = record {
   o = r.o;
   m = r.m;
@@ -100,7 +107,8 @@ passed w e0 e e1 p0 i i1 out0 reported0 out reported r h = record {
 }
 
 -- a call that discards a line, and the line that was in hand, are one turn
-line_goes : (may : Bool) (e' : Engine) (p' q : Pending) (f : Moving) → may ≡ p'.may_follow → after_line p' ≡ Some q → Moves may e' p' turns.SkipsLine f → Moves may e' q turns.GoesOn f
+line_goes : (may : Bool) (e' : Engine) (p' q : Pending) (f : Moving) → may ≡ p'.may_follow → after_line p' ≡ Some q
+    → Moves may e' p' turns.SkipsLine f → Moves may e' q turns.GoesOn f
 line_goes may e' p' q f g h k = λ z more c o m.
     k z more c o m
     ∙ ap (pop Expansion Kept Ended turn join (outer_of e'.open_calls)) (line_done (here_of o m e' p') p' q z more (subst (λ v. MayFollow v z more) g c) h)
@@ -136,7 +144,9 @@ pub went_on : (w : Wanted) (e0 e e' e2 : Engine) (p0 : Pending) (i i' : Held)
     → Running w e0 p0 out0 reported0 e2 i' out' reported'
 went_on w e0 e e' e2 p0 i i' out0 reported0 out reported out' reported' t r h y k l f =
     let s = subst (StaysBy i i') k y in
-    goes_on w e0 e e' e2 p0 i'.pending i i' out0 reported0 out reported out' reported' r (subst (λ (x : Turned). Moves (i.pending).may_follow e' i'.pending x (λ z more o m. moved (configuration o m e (longer z more i.pending)))) k h) s.follows refl s.ready l f
+    goes_on w e0 e e' e2 p0 i'.pending i i' out0 reported0 out reported out' reported' r
+    (subst (λ (x : Turned). Moves (i.pending).may_follow e' i'.pending x
+    (λ z more o m. moved (configuration o m e (longer z more i.pending)))) k h) s.follows refl s.ready l f
 
 -- the same after a line that was in hand
 pub went_past_line : (w : Wanted) (e0 e e' e2 : Engine) (p0 : Pending) (i k i' : Held)
@@ -149,7 +159,9 @@ pub went_past_line : (w : Wanted) (e0 e e' e2 : Engine) (p0 : Pending) (i k i' :
 went_past_line w e0 e e' e2 p0 i k i' out0 reported0 out reported out' reported' t r h y g l f d =
     let s = subst (StaysBy i k) g y in
     goes_on w e0 e e' e2 p0 i'.pending i i' out0 reported0 out reported out' reported' r
-    (line_goes (i.pending).may_follow e' k.pending i'.pending _ (sym s.follows) d.0 (subst (λ (x : Turned). Moves (i.pending).may_follow e' k.pending x (λ z more o m. moved (configuration o m e (longer z more i.pending)))) g h))
+    (line_goes (i.pending).may_follow e' k.pending i'.pending _ (sym s.follows) d.0
+    (subst (λ (x : Turned). Moves (i.pending).may_follow e' k.pending x
+    (λ z more o m. moved (configuration o m e (longer z more i.pending)))) g h))
     (line_keeps k.pending i'.pending d.0 ∙ s.follows) refl (ready_after_line k i' s.ready d) l f
 
 -- the measure falls at both
@@ -161,7 +173,10 @@ pub fell : (e e1 e' e2 : Engine) (i i1 i' : Held) (out out' reported reported' :
 fell e e1 e' e2 i i1 i' out out' reported reported' t w h y k due =
     let f = due_some e' e2 out out' reported reported' due in
     let s = subst (StaysBy i1 i') k y in
-    let a : turns_of e2 i'.pending < turns_of e1 i1.pending = move_falls e1 e' e2 i1.pending i'.pending f.front f.reported s.follows f.held (subst (λ (x : Turned). Moves (i1.pending).may_follow e' i'.pending x (λ z more o m. moved (configuration o m e1 (longer z more i1.pending)))) k h) in
+    let a : turns_of e2 i'.pending < turns_of e1 i1.pending =
+    move_falls e1 e' e2 i1.pending i'.pending f.front f.reported s.follows f.held
+    (subst (λ (x : Turned). Moves (i1.pending).may_follow e' i'.pending x
+    (λ z more o m. moved (configuration o m e1 (longer z more i1.pending)))) k h) in
     let b : turns_of e1 i1.pending ≤ turns_of e i.pending = (passes_reaches e e1 i i1 w).turns in
     omega arith
 
@@ -174,8 +189,11 @@ pub fell_past_line : (e e1 e' e2 : Engine) (i i1 k i' : Held) (out out' reported
 fell_past_line e e1 e' e2 i i1 k i' out out' reported reported' t w h y g due d =
     let f = due_some e' e2 out out' reported reported' due in
     let s = subst (StaysBy i1 k) g y in
-    let a : turns_of e2 i'.pending < turns_of e1 i1.pending = move_falls e1 e' e2 i1.pending i'.pending f.front f.reported (line_keeps k.pending i'.pending d.0 ∙ s.follows) f.held
-    (line_goes (i1.pending).may_follow e' k.pending i'.pending _ (sym s.follows) d.0 (subst (λ (x : Turned). Moves (i1.pending).may_follow e' k.pending x (λ z more o m. moved (configuration o m e1 (longer z more i1.pending)))) g h)) in
+    let a : turns_of e2 i'.pending < turns_of e1 i1.pending =
+    move_falls e1 e' e2 i1.pending i'.pending f.front f.reported (line_keeps k.pending i'.pending d.0 ∙ s.follows) f.held
+    (line_goes (i1.pending).may_follow e' k.pending i'.pending _ (sym s.follows) d.0
+    (subst (λ (x : Turned). Moves (i1.pending).may_follow e' k.pending x
+    (λ z more o m. moved (configuration o m e1 (longer z more i1.pending)))) g h)) in
     let b : turns_of e1 i1.pending ≤ turns_of e i.pending = (passes_reaches e e1 i i1 w).turns in
     omega arith
 
@@ -229,13 +247,16 @@ needed w e0 e e' e2 p0 i0 i i' out0 reported0 out reported out' reported' t p r 
     let n : Needs e e' i i' = subst (IsTurned e e' i i') k y in
     let flushed : e2 ≡ after_flush e = j ∙ ap after_flush n.engine in
     let here = subst (λ (q : Pending). Leads w e0 q wanted.Token (after_flush e) i.pending (r.o ++ e.output) (r.m ++ e.messages)) p
-    (leads_then w wanted.Token wanted.Token e0 e (after_flush e) p0 i.pending i.pending r.o r.m e.output e.messages r.leads (leads_flushed wanted.Token e (after_flush e) i.pending e.output e.messages (all_held e))) in
+    (leads_then w wanted.Token wanted.Token e0 e (after_flush e) p0 i.pending i.pending r.o r.m e.output e.messages
+    r.leads (leads_flushed wanted.Token e (after_flush e) i.pending e.output e.messages (all_held e))) in
     subst (λ (x : Engine). HandNeeds w e0 i0 wanted.Token x i' (writers out0 out' reported0 reported')) (sym flushed)
     (subst (λ (x : Held). HandNeeds w e0 i0 wanted.Token (after_flush e) x (writers out0 out' reported0 reported')) (sym n.input)
     (record {
       o = r.o ++ e.output;
       m = r.m ++ e.messages;
-      written = more_written r.o r.m e.output e.messages out0 out out' reported0 reported reported' r.written (f ∙ ap (λ (d : Engine). with_bytes out d.output) n.engine) (g ∙ ap (λ (d : Engine). with_bytes reported d.messages) n.engine);
+      written = more_written r.o r.m e.output e.messages out0 out out' reported0 reported reported' r.written
+          (f ∙ ap (λ (d : Engine). with_bytes out d.output) n.engine)
+          (g ∙ ap (λ (d : Engine). with_bytes reported d.messages) n.engine);
       marked = inr (mark_here w e0 (after_flush e) i0.pending i.pending (r.o ++ e.output) (r.m ++ e.messages) here refl);
       leads = here;
       ready = r.ready;
@@ -243,8 +264,18 @@ needed w e0 e e' e2 p0 i0 i i' out0 reported0 out reported out' reported' t p r 
       flushed = flushed_is e;
       undecided = λ a b.
           (rw (append-nil ((a ++ (r.o ++ e.output))), append-nil ((b ++ (r.m ++ e.messages)))) refl)
-          ∙ ap (λ (x : List ℕ). comes_to wanted.Token (record (configuration [] [] e i.pending) { here = record (here_of [] [] e i.pending) { so_far = record (so_far_of [] [] e) { output = x; messages = b ++ (r.m ++ e.messages) } } })) (sym (append_assoc a r.o e.output))
-          ∙ ap (λ (x : List ℕ). comes_to wanted.Token (record (configuration [] [] e i.pending) { here = record (here_of [] [] e i.pending) { so_far = record (so_far_of [] [] e) { output = (a ++ r.o) ++ e.output; messages = x } } })) (sym (append_assoc b r.m e.messages))
+          ∙ ap (λ (x : List ℕ). comes_to wanted.Token
+          (record (configuration [] [] e i.pending) {
+            here = record (here_of [] [] e i.pending)
+                { so_far = record (so_far_of [] [] e) { output = x; messages = b ++ (r.m ++ e.messages) } };
+          }))
+          (sym (append_assoc a r.o e.output))
+          ∙ ap (λ (x : List ℕ). comes_to wanted.Token
+          (record (configuration [] [] e i.pending) {
+            here = record (here_of [] [] e i.pending)
+                { so_far = record (so_far_of [] [] e) { output = (a ++ r.o) ++ e.output; messages = x } };
+          }))
+          (sym (append_assoc b r.m e.messages))
           ∙ sym (move_keeps Expansion Kept Ended turn join out_of_bound_at size_of calls_left falls (configuration (a ++ r.o) (b ++ r.m) e i.pending))
           ∙ ap (moved_meaning Expansion Kept Ended turn join expand) (n.undecided (a ++ r.o) (b ++ r.m))
           ∙ ap (λ (s : RunSoFar). Halted (let d : Ended = record { so_far = s; reason = NeedsInput } in d))
@@ -254,13 +285,16 @@ needed w e0 e e' e2 p0 i0 i i' out0 reported0 out reported out' reported' t p r 
     }))
 
 -- the rest of a line is not in hand
-line_undecided : (e : Engine) (p : Pending) (a b : List ℕ) → p.may_follow ≡ true → text_of p ≡ [] → comes_to wanted.Line (configuration a b e p) ≡ Halted (record { so_far = so_far_of a b e; reason = NeedsInput })
+line_undecided : (e : Engine) (p : Pending) (a b : List ℕ) → p.may_follow ≡ true → text_of p ≡ []
+    → comes_to wanted.Line (configuration a b e p) ≡ Halted (record { so_far = so_far_of a b e; reason = NeedsInput })
 line_undecided e p a b f h =
     ap (λ (x : List ℕ). resume Expansion Kept Ended turn join expand (outer_of e.open_calls) (then_on (skip_line (line_length x) (here_of a b e p)) expand)) h
     ∙ ap (λ (v : Bool). resume Expansion Kept Ended turn join expand (outer_of e.open_calls) (then_on (skip_all v (here_of a b e p)) expand)) f
     ∙ resume-halted Expansion Kept Ended turn join expand (outer_of e.open_calls) (record { so_far = so_far_of a b e; reason = NeedsInput })
 
-line_needs : (w : Wanted) (e0 e : Engine) (i0 k j : Held) (o m : List ℕ) (c : Contents) → HasWritten o m c → IsMarked w e0 i0.pending o m → Leads w e0 i0.pending wanted.Line e k.pending o m → IsReady k → IsFlushed e → LineGives k j false → HandNeeds w e0 i0 wanted.Line e j c
+line_needs : (w : Wanted) (e0 e : Engine) (i0 k j : Held) (o m : List ℕ) (c : Contents) → HasWritten o m c
+    → IsMarked w e0 i0.pending o m → Leads w e0 i0.pending wanted.Line e k.pending o m → IsReady k → IsFlushed e
+    → LineGives k j false → HandNeeds w e0 i0 wanted.Line e j c
 line_needs w e0 e i0 k j o m c h n l r f d =
     subst (λ (x : Held). HandNeeds w e0 i0 wanted.Line e x c) (sym d.1)
     (record {
@@ -276,10 +310,12 @@ line_needs w e0 e i0 k j o m c h n l r f d =
     })
 
 -- at the start
-pub needs_line : (e : Engine) (i j : Held) (w : Wanted) (out reported : Option (List ℕ)) → w ≡ wanted.Line → IsReady i → IsFlushed e → LineGives i j false → HandNeeds w e i wanted.Line e j (writers out out reported reported)
+pub needs_line : (e : Engine) (i j : Held) (w : Wanted) (out reported : Option (List ℕ)) → w ≡ wanted.Line → IsReady i
+    → IsFlushed e → LineGives i j false → HandNeeds w e i wanted.Line e j (writers out out reported reported)
 needs_line e i j w out reported g r f d =
     subst (λ (x : Wanted). HandNeeds x e i wanted.Line e j (writers out out reported reported)) (sym g)
-    (line_needs wanted.Line e e i i j [] [] (writers out out reported reported) (none_written out reported) (inl (refl, refl)) (leads_nowhere wanted.Line e i.pending) r f d)
+    (line_needs wanted.Line e e i i j [] [] (writers out out reported reported) (none_written out reported)
+    (inl (refl, refl)) (leads_nowhere wanted.Line e i.pending) r f d)
 
 -- a turn that skips a line was made
 skips_line : (e e' : Engine) (i k : Held) (t : Turned) → t ≡ turns.SkipsLine → IsTurned e e' i k t
@@ -299,11 +335,14 @@ needs_line_after w e0 e e' e2 p0 i0 i k j out0 reported0 out reported out' repor
     subst (λ (x : Engine). HandNeeds w e0 i0 wanted.Line x j (writers out0 out' reported0 reported')) (sym n)
     (line_needs w e0 (after_flush e') i0 k j (r.o ++ e'.output) (r.m ++ e'.messages) (writers out0 out' reported0 reported')
     (more_written r.o r.m e'.output e'.messages out0 out out' reported0 reported reported' r.written f q)
-    (inr (subst (λ (x : Pending). Marked w e0 x (r.o ++ e'.output) (r.m ++ e'.messages)) p (mark_flushed w e0 e e' p0 i k t r.o r.m r.leads h (skips_line e e' i k t g))))
+    (inr (subst (λ (x : Pending). Marked w e0 x (r.o ++ e'.output) (r.m ++ e'.messages)) p
+    (mark_flushed w e0 e e' p0 i k t r.o r.m r.leads h (skips_line e e' i k t g))))
     (leads_then w wanted.Line wanted.Line e0 e' (after_flush e') i0.pending k.pending k.pending r.o r.m e'.output e'.messages
     (leads_on w wanted.Token wanted.Line e0 e e' i0.pending i.pending k.pending r.o r.m
     (subst (λ (x : Pending). Leads w e0 x wanted.Token e i.pending r.o r.m) p r.leads)
-    (leads_to_line e e' i.pending k.pending s.follows l (subst (λ (x : Turned). Moves (i.pending).may_follow e' k.pending x (λ z more o m. moved (configuration o m e (longer z more i.pending)))) g h)))
+    (leads_to_line e e' i.pending k.pending s.follows l
+    (subst (λ (x : Turned). Moves (i.pending).may_follow e' k.pending x
+    (λ z more o m. moved (configuration o m e (longer z more i.pending)))) g h)))
     (leads_flushed wanted.Line e' (after_flush e') k.pending e'.output e'.messages (all_held e')))
     s.ready (flushed_is e') d)
 
@@ -332,7 +371,8 @@ line_makes o m e p =
     (extends_more _ _ _ (then_keeps v expand whole_keeps) (resume_keeps (outer_of e.open_calls) (then_on v expand)))
 
 -- what was written is a part of what is made
-has_made : (a b o m x y : List ℕ) (e : Engine) (r : RunSoFar) (x' y' : List ℕ) → e.output ≡ x ++ x' → e.messages ≡ y ++ y' → Extends (so_far_of (a ++ o) (b ++ m) e) r → HasMade (a ++ (o ++ x)) (b ++ (m ++ y)) r
+has_made : (a b o m x y : List ℕ) (e : Engine) (r : RunSoFar) (x' y' : List ℕ) → e.output ≡ x ++ x'
+    → e.messages ≡ y ++ y' → Extends (so_far_of (a ++ o) (b ++ m) e) r → HasMade (a ++ (o ++ x)) (b ++ (m ++ y)) r
 has_made a b o m x y e r x' y' f g k = record {
   x = x' ++ k.more;
   y = y' ++ k.reported;
@@ -370,12 +410,14 @@ turn_made e e' i j z more o m turns.GoesOn c h k =
     subst (λ v. Extends (so_far_of o m e') (so_far_in v)) (moved_on e e' i.pending j.pending z more o m c h) (meaning_keeps o m e' (longer z more j.pending))
 turn_made e e' i j z more o m turns.SkipsLine c h k =
     subst (λ v. Extends (so_far_of o m e') (so_far_in v))
-    (sym (popped Expansion Kept Ended turn join out_of_bound_at size_of calls_left falls (outer_of e'.open_calls) (skipped_first wanted.Line (here_of o m e' (longer z more j.pending))))
+    (sym (popped Expansion Kept Ended turn join out_of_bound_at size_of calls_left falls (outer_of e'.open_calls)
+    (skipped_first wanted.Line (here_of o m e' (longer z more j.pending))))
     ∙ ap (moved_meaning Expansion Kept Ended turn join expand) (sym (h z more c o m))
     ∙ move_keeps Expansion Kept Ended turn join out_of_bound_at size_of calls_left falls (configuration o m e (longer z more i.pending)))
     (line_makes o m e' (longer z more j.pending))
 turn_made e e' i j z more o m turns.NeedsMore c h k =
-    subst (λ (d : Engine). Extends (so_far_of o m d) (so_far_in (meaning_of o m e (longer z more i.pending)))) (sym k.engine) (meaning_keeps o m e (longer z more i.pending))
+    subst (λ (d : Engine). Extends (so_far_of o m d) (so_far_in (meaning_of o m e (longer z more i.pending))))
+    (sym k.engine) (meaning_keeps o m e (longer z more i.pending))
 turn_made e e' i j z more o m (turns.Ends cause) c h k =
     subst (λ v. Extends (so_far_of o m e') (so_far_in v)) (sym (end_means e e' i.pending j.pending z more o m cause c h)) (extends_same (so_far_of o m e'))
 
@@ -394,7 +436,8 @@ write_breaks w e0 e e' p0 i j t out0 reported0 out reported out' reported' r h k
       let c' : MayFollow (i.pending).may_follow z more = subst (λ v. MayFollow v z more) (sym (r.leads).follows) c in
       subst (λ (v : RunSoFar). HasMade (x ++ (r.o ++ ((b.0).1).front)) (y ++ (r.m ++ ((b.1).1).front)) v)
       (ap so_far_in (leads_same w wanted.Token e0 e p0 i.pending r.o r.m r.leads z more c x y))
-      (has_made x y r.o r.m ((b.0).1).front ((b.1).1).front e' _ (b.0).0 (b.1).0 ((b.0).1).parts ((b.1).1).parts (turn_made e e' i j z more (x ++ r.o) (y ++ r.m) t c' h k));
+      (has_made x y r.o r.m ((b.0).1).front ((b.1).1).front e' _ (b.0).0 (b.1).0 ((b.0).1).parts ((b.1).1).parts
+      (turn_made e e' i j z more (x ++ r.o) (y ++ r.m) t c' h k));
 }
 
 -- the front of a turn's output is what was buffered before it
@@ -411,7 +454,8 @@ pub write_breaks_in_order : (w : Wanted) (e0 e e' : Engine) (p0 : Pending) (i j 
     → BreaksInOrder w e0 p0 (writers out0 out' reported0 reported')
 write_breaks_in_order w e0 e e' p0 i j t earlier out0 reported0 out reported out' reported' r h k is order b = by order.output_first
   where
-    by : (reported' ≡ reported) ⊎ HasTaken (take earlier e'.output) (writers out out' reported reported') → BreaksInOrder w e0 p0 (writers out0 out' reported0 reported')
+    by : (reported' ≡ reported) ⊎ HasTaken (take earlier e'.output) (writers out out' reported reported')
+        → BreaksInOrder w e0 p0 (writers out0 out' reported0 reported')
     by (inl q) = record {
       o = r.o ++ ((b.0).1).front;
       m = r.m;
@@ -434,7 +478,8 @@ write_breaks_in_order w e0 e e' p0 i j t earlier out0 reported0 out reported out
                 ∙ ap (λ (v : Option (List ℕ)). with_bytes v (e.output ++ q.0)) (r.written).output
                 ∙ with_bytes-append out0 r.o (e.output ++ q.0)
                 ∙ ap (with_bytes out0) (sym (append_assoc r.o e.output q.0));
-            messages = (more_written r.o r.m [] ((b.1).1).front out0 out out reported0 reported reported' r.written (with_bytes-nil out) ((b.1).1).holds).messages;
+            messages = (more_written r.o r.m [] ((b.1).1).front out0 out out reported0 reported reported' r.written
+                (with_bytes-nil out) ((b.1).1).holds).messages;
           };
           marked = mark_turn w e0 e e' p0 i j t r.o r.m q.0 ((b.1).1).front (b.1).0 r.leads h k ((b.1).1).parts;
         }
@@ -526,7 +571,8 @@ pub line_done_by : (i j : Held) (v w : Bool) → v ≡ w → LineGives i j v →
 line_done_by i j v w e h = subst (LineGives i j) e h
 
 -- a turn ends an expansion by no fault of a device or of an allocation
-hand_ends_so : (w : Wanted) (old new : Engine) (i j : Held) (c : Contents) (end : TurnEnd) → HandEnds w old i.pending (cause_of_end end) new c → HandGives w old new i j c (Err (cause_of_end end))
+hand_ends_so : (w : Wanted) (old new : Engine) (i j : Held) (c : Contents) (end : TurnEnd)
+    → HandEnds w old i.pending (cause_of_end end) new c → HandGives w old new i j c (Err (cause_of_end end))
 hand_ends_so w old new i j c turn_ends.Done h = h
 hand_ends_so w old new i j c (turn_ends.Exited n) h = h
 hand_ends_so w old new i j c turn_ends.EndInString h = h
@@ -535,16 +581,19 @@ hand_ends_so w old new i j c turn_ends.EndInArguments h = h
 hand_ends_so w old new i j c turn_ends.ExpansionLimit h = h
 hand_ends_so w old new i j c turn_ends.NestingLimit h = h
 
-pub hand_ends : (w : Wanted) (old new : Engine) (i j : Held) (c : Contents) (end : TurnEnd) (cause : Cause) → cause ≡ cause_of_end end → HandEnds w old i.pending (cause_of_end end) new c → HandGives w old new i j c (Err cause)
+pub hand_ends : (w : Wanted) (old new : Engine) (i j : Held) (c : Contents) (end : TurnEnd) (cause : Cause)
+    → cause ≡ cause_of_end end → HandEnds w old i.pending (cause_of_end end) new c → HandGives w old new i j c (Err cause)
 hand_ends w old new i j c end cause k h = subst (λ (x : Cause). HandGives w old new i j c (Err x)) (sym k) (hand_ends_so w old new i j c end h)
 
 -- the loop begins, by what is wanted
-pub begins_so : (e : Engine) (i k : Held) (w : Wanted) (out reported : Option (List ℕ)) → w ≡ wanted.Token → k ≡ i → IsReady i → IsFlushed e → Running w e i.pending out reported e k out reported
+pub begins_so : (e : Engine) (i k : Held) (w : Wanted) (out reported : Option (List ℕ)) → w ≡ wanted.Token → k ≡ i
+    → IsReady i → IsFlushed e → Running w e i.pending out reported e k out reported
 begins_so e i k w out reported h g r f =
     subst (λ (x : Wanted). Running x e i.pending out reported e k out reported) (sym h)
     (subst (λ (x : Held). Running wanted.Token e i.pending out reported e x out reported) (sym g) (begins_at_token e i out reported r f))
 
-pub begins_past : (e : Engine) (i j k : Held) (w : Wanted) (out reported : Option (List ℕ)) → w ≡ wanted.Line → k ≡ j → IsReady i → IsFlushed e → LineGives i j true → Running w e i.pending out reported e k out reported
+pub begins_past : (e : Engine) (i j k : Held) (w : Wanted) (out reported : Option (List ℕ)) → w ≡ wanted.Line → k ≡ j
+    → IsReady i → IsFlushed e → LineGives i j true → Running w e i.pending out reported e k out reported
 begins_past e i j k w out reported h g r f d =
     subst (λ (x : Wanted). Running x e i.pending out reported e k out reported) (sym h)
     (subst (λ (x : Held). Running wanted.Line e i.pending out reported e x out reported) (sym g) (begins_after_line e i j out reported r f d))

@@ -52,7 +52,9 @@ module _ (o m : List ℕ) (c calls calls' nesting nesting' : ℕ) (room : (k : �
   abbrev Lev : Expansion → Expansion
   Lev s = record s { limits = record s.limits { calls = calls; nesting = nesting }; so_far = Br s.so_far }
 
-  ended_after : (v w : Outcome Expansion Ended) → Fits Expansion Ended (λ s t. (s ≡ Lev t) × (((t.limits).calls ≡ calls') × ((t.limits).nesting ≡ nesting'))) (λ d x. Limit d.reason ⊎ ((e : Ended) × (x ≡ Halted e) × (d ≡ Be e))) v w → PrefixedEnd (ended_of v) (ended_of w)
+  ended_after : (v w : Outcome Expansion Ended)
+      → Fits Expansion Ended (λ s t. (s ≡ Lev t) × (((t.limits).calls ≡ calls') × ((t.limits).nesting ≡ nesting')))
+      (λ d x. Limit d.reason ⊎ ((e : Ended) × (x ≡ Halted e) × (d ≡ Be e))) v w → PrefixedEnd (ended_of v) (ended_of w)
   ended_after (Halted d) w (inl h) = inl h
   ended_after (Halted d) w (inr h) = inr (h.2 ∙ ap Be (sym (ap ended_of h.1)))
   ended_after (Closed s) w h = inr (ap out_of_bound_at (h.2).0 ∙ ap Be (sym (ap ended_of h.1)))
@@ -69,7 +71,9 @@ module _ (o m : List ℕ) (c calls calls' nesting nesting' : ℕ) (room : (k : �
   read_after : (s : Source) (r : RunSoFar) (any_missing : Bool) → Prefixed (read_source first s (Br r) any_missing) (read_source second s r any_missing)
   read_after (Opened name bytes) r any_missing = after_after _ _ any_missing (input_after r (file_pending name bytes false))
   read_after (Unopened name) r any_missing =
-      inr (ap (λ (x : List ℕ). let p : Progress = record { so_far = record (Br r) { messages = x }; over = None; any_missing = true } in p) (append_assoc m r.messages (cannot_open name)))
+      inr (ap (λ (x : List ℕ). let p : Progress =
+      record { so_far = record (Br r) { messages = x }; over = None; any_missing = true } in p)
+      (append_assoc m r.messages (cannot_open name)))
 
   unless_after : (v : Option EndReason) (q new new' : Progress) → Prefixed new new' → Prefixed (unless_over v (Bp q) new) (unless_over v q new')
   unless_after None q new new' h = h
@@ -88,7 +92,9 @@ module _ (o m : List ℕ) (c calls calls' nesting nesting' : ℕ) (room : (k : �
   pub round_follows : (saved : List (List ℕ)) (q : Progress) → Prefixed (read_saved first saved (Bp q)) (read_saved second saved q)
   round_follows saved q = after_after _ _ q.any_missing (input_after (record q.so_far { saved = [] }) (wrapped_pending (joined_back saved)))
 
-  next_after : (go go' : Progress → Progress) → ((p q : Progress) → Prefixed p q → Prefixed (go p) (go' q)) → (v : Option EndReason) (saved : List (List ℕ)) (q : Progress) → Prefixed (next_round go first v saved (Bp q)) (next_round go' second v saved q)
+  next_after : (go go' : Progress → Progress) → ((p q : Progress) → Prefixed p q → Prefixed (go p) (go' q))
+      → (v : Option EndReason) (saved : List (List ℕ)) (q : Progress)
+      → Prefixed (next_round go first v saved (Bp q)) (next_round go' second v saved q)
   next_after go go' h (Some x) saved q = inr refl
   next_after go go' h None [] q = inr refl
   next_after go go' h None (x ∷ xs) q =

@@ -262,9 +262,12 @@ take_front_turns (Refused u n) s h = (unended_cause u, refl)
 take_front_turns More s h = absurd h
 
 turn_turns : (s : Expansion) (v : Turn Expansion Kept Ended) → turn s ≡ v → (s.pending).may_follow ≡ false → Turns s v
-turn_turns s v e h = subst (Turns s) e (take_front_turns (token_at ((s.so_far).state).quotes ((s.so_far).state).comments s.pending) s (front_known (s.pending).definition ((s.so_far).state).quotes ((s.so_far).state).comments s.pending h))
+turn_turns s v e h = subst (Turns s) e (take_front_turns
+    (token_at ((s.so_far).state).quotes ((s.so_far).state).comments s.pending) s
+    (front_known (s.pending).definition ((s.so_far).state).quotes ((s.so_far).state).comments s.pending h))
 
-join_outs : (m : Mode) (k : Kept) (t : Expansion) (v : Outcome Expansion Ended) → join_by m k t ≡ v → is_outside m ≡ false → (t.pending).may_follow ≡ false → Outs k.mode v
+join_outs : (m : Mode) (k : Kept) (t : Expansion) (v : Outcome Expansion Ended) → join_by m k t ≡ v
+    → is_outside m ≡ false → (t.pending).may_follow ≡ false → Outs k.mode v
 join_outs Outside k t v e o h = cc
 join_outs (Collecting c) k t v e o h = subst (Outs k.mode) e (called_outs c t k h)
 
@@ -272,7 +275,9 @@ Post : Expansion → Outcome Expansion Ended → Type 0
 Post s (Halted d) = (s.pending).may_follow ≡ false → IsCaused d.reason
 Post s (Closed u) = (s.pending).may_follow ≡ false → (is_outside s.mode ≡ false) × (is_outside u.mode ≡ false) × ((u.pending).may_follow ≡ false)
 
-after_step : (s t : Expansion) (o : Outcome Expansion Ended) → (((s.pending).may_follow ≡ false) → (is_outside t.mode ≡ is_outside s.mode) × ((t.pending).may_follow ≡ false)) → Post t o → Post s o
+after_step : (s t : Expansion) (o : Outcome Expansion Ended)
+    → (((s.pending).may_follow ≡ false) → (is_outside t.mode ≡ is_outside s.mode) × ((t.pending).may_follow ≡ false))
+    → Post t o → Post s o
 unfolding Post
 after_step s t (Halted d) f p = λ h. p (f h).1
 after_step s t (Closed u) f p = λ h. let k = p (f h).1 in (sym (f h).0 ∙ k.0, k.1, k.2)
@@ -286,12 +291,15 @@ rules = record {
   bare = λ s t o e p. after_step s t o (λ h. turn_turns s (Bare t) e h) p;
   list_halts = λ s t f d e p h. p (turn_turns s (Opens f t) e h).1;
   call_halts = λ s t u f d e p j h. let v = turn_turns s (Opens f t) e h in let k = p v.1 in join_outs u.mode f u (Halted d) j k.1 k.2;
-  joins = λ s t u w f o e p j q. after_step s w o (λ h. let v = turn_turns s (Opens f t) e h in let k = p v.1 in let x = join_outs u.mode f u (Closed w) j k.1 k.2 in (x.0 ∙ v.0, x.1)) q;
+  joins = λ s t u w f o e p j q. after_step s w o
+      (λ h. let v = turn_turns s (Opens f t) e h in let k = p v.1 in let x =
+      join_outs u.mode f u (Closed w) j k.1 k.2 in (x.0 ∙ v.0, x.1)) q;
 }
 
 input_caused : (limits : Limits) (r : RunSoFar) (p : Pending) → p.may_follow ≡ false → IsCaused (expand_input limits r p).reason
 unfolding Post
-input_caused limits r p h = go (expand (expansion_of limits r p)) (holds Expansion Kept Ended turn join out_of_bound_at size_of calls_left falls Post rules (expansion_of limits r p))
+input_caused limits r p h = go (expand (expansion_of limits r p))
+    (holds Expansion Kept Ended turn join out_of_bound_at size_of calls_left falls Post rules (expansion_of limits r p))
   where
     go : (o : Outcome Expansion Ended) → Post (expansion_of limits r p) o → IsCaused (ended_of o).reason
     go (Halted d) v = v h
@@ -331,12 +339,18 @@ read_caused limits (Unopened name) r any_missing = tt
 
 sources_caused : (limits : Limits) (ss : List Source) (p : Progress) → CausedOver p.over → CausedOver (after_sources limits ss p).over
 sources_caused limits [] p h = h
-sources_caused limits (s ∷ ss) p h = sources_caused limits ss (after_source limits s p) (unless_caused p.over p (read_source limits s p.so_far p.any_missing) h (read_caused limits s p.so_far p.any_missing))
+sources_caused limits (s ∷ ss) p h = sources_caused limits ss (after_source limits s p)
+    (unless_caused p.over p (read_source limits s p.so_far p.any_missing) h (read_caused limits s p.so_far p.any_missing))
 
-next_caused : (go : Progress → Progress) (limits : Limits) → ((q : Progress) → CausedOver q.over → CausedOver (go q).over) → (v : Option EndReason) (saved : List (List ℕ)) (p : Progress) → CausedOver p.over → CausedOver (next_round go limits v saved p).over
+next_caused : (go : Progress → Progress) (limits : Limits)
+    → ((q : Progress) → CausedOver q.over → CausedOver (go q).over)
+    → (v : Option EndReason) (saved : List (List ℕ)) (p : Progress) → CausedOver p.over
+    → CausedOver (next_round go limits v saved p).over
 next_caused go limits g (Some x) saved p h = h
 next_caused go limits g None [] p h = h
-next_caused go limits g None (x ∷ xs) p h = g (read_saved limits (x ∷ xs) p) (over_caused _ (input_caused limits (record p.so_far { saved = [] }) (wrapped_pending (joined_back (x ∷ xs))) refl))
+next_caused go limits g None (x ∷ xs) p h =
+    g (read_saved limits (x ∷ xs) p)
+    (over_caused _ (input_caused limits (record p.so_far { saved = [] }) (wrapped_pending (joined_back (x ∷ xs))) refl))
 
 rounds_caused : (n : ℕ) (limits : Limits) (p : Progress) → CausedOver p.over → CausedOver (rounds n limits p).over
 rounds_caused zero limits p h = h
@@ -347,7 +361,8 @@ unfolding CausedOver
 start_caused (From s issued) = tt
 start_caused (Faulty fault) = (causes.Frozen fault, refl)
 
-result_caused : (v : Option EndReason) (freezes : Bool) (saved : List (List ℕ)) (r : RunSoFar) (any_missing : Bool) → CausedOver v → IsCaused (result_by v freezes saved r any_missing).reason
+result_caused : (v : Option EndReason) (freezes : Bool) (saved : List (List ℕ)) (r : RunSoFar) (any_missing : Bool)
+    → CausedOver v → IsCaused (result_by v freezes saved r any_missing).reason
 unfolding CausedOver
 result_caused None freezes saved r any_missing h = (causes.Done, refl)
 result_caused (Some x) freezes saved r any_missing h = h

@@ -49,7 +49,8 @@ starts_so prefix (Some file) = starts_from prefix file.fails file.bytes
 pub one_start : (prefix : Bool) (frozen : Option Script) (start : Start) → IsStart prefix frozen start ↔ (start ≡ start_of prefix frozen)
 one_start prefix frozen start = (is_start prefix frozen start, λ e. subst (IsStart prefix frozen) (sym e) (starts_so prefix frozen))
 
-pub same_denotation : (o : Options) (a b : List ℕ) (ds es : List Directive) (sources : List Source) → Spells ds a → Spells es b → denote ds ≡ denote es → run o (Some (frozen_file a)) sources ≡ run o (Some (frozen_file b)) sources
+pub same_denotation : (o : Options) (a b : List ℕ) (ds es : List Directive) (sources : List Source) → Spells ds a
+    → Spells es b → denote ds ≡ denote es → run o (Some (frozen_file a)) sources ≡ run o (Some (frozen_file b)) sources
 same_denotation o a b ds es sources s t e =
     ap (λ (x : Start). run_from o x sources)
     (start-spelled a ds s

@@ -85,7 +85,8 @@ TurnSaves s (GoOn t) = (t.limits ≡ s.limits) × ((t.so_far).saved ≡ (s.so_fa
 TurnSaves s (Bare t) = t.limits ≡ s.limits
 TurnSaves s (Opens f t) = t.limits ≡ s.limits
 
-bare_saves : (s t : Expansion) (o : Outcome Expansion Ended) → t.limits ≡ s.limits → (t.so_far).calls ≡ suc (s.so_far).calls → (s.so_far).calls < limit_of s → OutSaves t o → TurnSaves s (bare o)
+bare_saves : (s t : Expansion) (o : Outcome Expansion Ended) → t.limits ≡ s.limits
+    → (t.so_far).calls ≡ suc (s.so_far).calls → (s.so_far).calls < limit_of s → OutSaves t o → TurnSaves s (bare o)
 unfolding OutSaves TurnSaves
 bare_saves s t (Halted d) e f h g = saves_more (limit_of s) s.so_far d.so_far (omega arith)
 bare_saves s t (Closed u) e f h g = g.0 ∙ e
@@ -93,14 +94,17 @@ bare_saves s t (Closed u) e f h g = g.0 ∙ e
 collect_saves : (listed : Bool) (c : Call) (p : Pending) (s : Expansion) → (s.so_far).calls < limit_of s → TurnSaves s (collect listed c p (with_call s))
 unfolding TurnSaves
 collect_saves true c p s h = refl
-collect_saves false c p s h = bare_saves s (after_call c (reading p (with_call s)) (kept_of s)) (called c (reading p (with_call s)) (kept_of s)) refl refl h (called_saves c (reading p (with_call s)) (kept_of s))
+collect_saves false c p s h = bare_saves s (after_call c (reading p (with_call s)) (kept_of s))
+    (called c (reading p (with_call s)) (kept_of s)) refl refl h (called_saves c (reading p (with_call s)) (kept_of s))
 
-deep_saves : (deep listed : Bool) (c : Call) (p : Pending) (s : Expansion) → (s.so_far).calls < limit_of s → TurnSaves s (call_unless_deep deep listed c p (with_call s))
+deep_saves : (deep listed : Bool) (c : Call) (p : Pending) (s : Expansion) → (s.so_far).calls < limit_of s
+    → TurnSaves s (call_unless_deep deep listed c p (with_call s))
 unfolding TurnSaves
 deep_saves true listed c p s h = (let g : limit_of s - suc (s.so_far).calls ≤ limit_of s - (s.so_far).calls = omega arith in g, inl refl)
 deep_saves false listed c p s h = collect_saves listed c p s h
 
-room_saves : (room listed : Bool) (c : Call) (p : Pending) (s : Expansion) → (room ≡ true → (s.so_far).calls < limit_of s) → TurnSaves s (call_if_room room listed c p s)
+room_saves : (room listed : Bool) (c : Call) (p : Pending) (s : Expansion)
+    → (room ≡ true → (s.so_far).calls < limit_of s) → TurnSaves s (call_if_room room listed c p s)
 unfolding TurnSaves
 room_saves true listed c p s h = deep_saves (is_deep s) listed c p s (h refl)
 room_saves false listed c p s h = (le_refl _, inl refl)
@@ -218,14 +222,16 @@ call_step : (s t : Expansion) → t.limits ≡ s.limits → calls_left t < calls
 call_step s t e l = let m : calls_left t ≡ limit_of s - (t.so_far).calls = steps s t e in omega arith
 
 -- after a list the count has risen
-list_step : (s t u : Expansion) → t.limits ≡ s.limits → limit_of s - (t.so_far).calls < limit_of s - (s.so_far).calls → Post t (Closed u) → (u.limits ≡ s.limits) × (limit_of s - (u.so_far).calls < limit_of s - (s.so_far).calls)
+list_step : (s t u : Expansion) → t.limits ≡ s.limits → limit_of s - (t.so_far).calls < limit_of s - (s.so_far).calls
+    → Post t (Closed u) → (u.limits ≡ s.limits) × (limit_of s - (u.so_far).calls < limit_of s - (s.so_far).calls)
 unfolding Post
 list_step s t u e h p =
     let P : Limits → Type 0 = λ l. l.calls - (u.so_far).calls ≤ l.calls - (t.so_far).calls in
     let g : limit_of s - (u.so_far).calls ≤ limit_of s - (t.so_far).calls = subst P e p.1.0 in
     (p.0 ∙ e, let x : limit_of s - (u.so_far).calls < limit_of s - (s.so_far).calls = omega arith in x)
 
-saves_count : (s : Expansion) (a : RunSoFar) (b : RunSoFar) → b.calls ≡ a.calls → limit_of s - a.calls < limit_of s - (s.so_far).calls → Saves (limit_of s) s.so_far b
+saves_count : (s : Expansion) (a : RunSoFar) (b : RunSoFar) → b.calls ≡ a.calls
+    → limit_of s - a.calls < limit_of s - (s.so_far).calls → Saves (limit_of s) s.so_far b
 saves_count s a b e h = saves_more (limit_of s) s.so_far b (let x : limit_of s - b.calls < limit_of s - (s.so_far).calls = omega arith in x)
 
 rules : Rules Expansion Kept Ended turn join Post
@@ -235,7 +241,8 @@ rules = record {
   close = λ s t e. let h = turn_saves s (Close t) e in (h.0, close_step s t e h);
   go_on = λ s t o e p. let h = turn_saves s (GoOn t) e in after_step s t o h.0 (go_on_step s t e h) p;
   bare = λ s t o e p. let h = turn_saves s (Bare t) e in after_step s t o h (saves_more (limit_of s) s.so_far t.so_far (call_step s t h (falls.bare s t e))) p;
-  list_halts = λ s t f d e p. let h = turn_saves s (Opens f t) e in after_step s t (Halted d) h (saves_more (limit_of s) s.so_far t.so_far (call_step s t h (falls.opens s t f e))) p;
+  list_halts = λ s t f d e p. let h = turn_saves s (Opens f t) e in after_step s t (Halted d) h
+      (saves_more (limit_of s) s.so_far t.so_far (call_step s t h (falls.opens s t f e))) p;
   call_halts = λ s t u f d e p j.
       let h = turn_saves s (Opens f t) e in
       let k = list_step s t u h (call_step s t h (falls.opens s t f e)) p in
@@ -250,7 +257,8 @@ rules = record {
 -- the expansion of an input
 pub input_saves : (limits : Limits) (r : RunSoFar) (p : Pending) → Saves limits.calls r (expand_input limits r p).so_far
 unfolding Post
-input_saves limits r p = go (expand (expansion_of limits r p)) (holds Expansion Kept Ended turn join out_of_bound_at size_of calls_left falls Post rules (expansion_of limits r p))
+input_saves limits r p = go (expand (expansion_of limits r p))
+    (holds Expansion Kept Ended turn join out_of_bound_at size_of calls_left falls Post rules (expansion_of limits r p))
   where
     go : (o : Outcome Expansion Ended) → Post (expansion_of limits r p) o → Saves limits.calls r (ended_of o).so_far
     go (Halted d) h = h

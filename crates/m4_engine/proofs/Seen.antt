@@ -62,7 +62,8 @@ abbrev pub recognised_call : (listed : Bool) (s : State) (name : List ℕ) (at :
 recognised_call listed s name at h = (call_of h.0 name at, h.1, refl, h.2)
 
 -- whether a list follows so many bytes, once these were consumed
-pub list_there : (q c : Delimiters) (p r : Pending) (n : ℕ) (v : Answer) → r ≡ consumed n p → paren_in q c p.may_follow (drop n (text_of p)) ≡ v → paren_at q c r ≡ v
+pub list_there : (q c : Delimiters) (p r : Pending) (n : ℕ) (v : Answer) → r ≡ consumed n p
+    → paren_in q c p.may_follow (drop n (text_of p)) ≡ v → paren_at q c r ≡ v
 list_there q c p r n v g k =
     ap (paren_at q c) g
     ∙ ap (paren_in q c p.may_follow) (sym (drop_parts n p.pushed p.unread))
@@ -113,7 +114,9 @@ list_first q c p e = by p.definition e
 -- a name that was consumed, as a turn takes it; q is pending after it
 module _ (may : Bool) (e e1 : Engine) (p q p' : Pending) (r : Result Turned TurnFault) (name : List ℕ) where
   abbrev pub NameMoves : Type 0
-  NameMoves = IfOk r (λ u. Moves may e1 p' u (λ z more o l. step (outer_of e.open_calls) (take_name (top_of e.state name) name (longer z more q) (here_of o l e (longer z more p)))))
+  NameMoves = IfOk r (λ u. Moves may e1 p' u
+      (λ z more o l. step (outer_of e.open_calls)
+      (take_name (top_of e.state name) name (longer z more q) (here_of o l e (longer z more p)))))
 
 -- a text that is called with no list
 pub expansion_moves : (e e1 : Engine) (d : Call) (name : List ℕ) (p q p' : Pending) (r : Result Turned TurnFault)
@@ -127,7 +130,9 @@ pub expansion_moves : (e e1 : Engine) (d : Call) (name : List ℕ) (p q p' : Pen
 expansion_moves e e1 f name p q p' (Ok u) d i v k =
     let at : Place = place_at p in
     let c : Call = call_of (Text v.0) name at in
-    moves_by q.may_follow e1 p' u _ _ (λ z more t o l. named e (Text v.0) name false (longer z more q) (longer z more p) at o l (sym v.1) (paren_longer (e.state).quotes (e.state).comments q false z more d i t) (λ y. refl) refl) (k c v.0 refl v.2 (λ z more. longer z more p))
+    moves_by q.may_follow e1 p' u _ _ (λ z more t o l. named e (Text v.0) name false (longer z more q) (longer z more p)
+    at o l (sym v.1) (paren_longer (e.state).quotes (e.state).comments q false z more d i t) (λ y. refl) refl)
+    (k c v.0 refl v.2 (λ z more. longer z more p))
 expansion_moves e e1 f name p q p' (Err y) d i v k = tt
 
 -- a builtin that skips the line, called with no list
@@ -139,7 +144,9 @@ line_skips e e1 name p q d i room shallow g v =
     let at : Place = place_at p in
     let c : Call = call_of (Builtin Dnl) name at in
     let a : Acted = record { state = e.state; effect = record nothing { skip = true } } in
-    moves_by q.may_follow e1 q turns.SkipsLine _ _ (λ z more t o l. named e (Builtin Dnl) name false (longer z more q) (longer z more p) at o l (sym v) (paren_longer (e.state).quotes (e.state).comments q false z more d i t) (λ y. refl) refl)
+    moves_by q.may_follow e1 q turns.SkipsLine _ _
+    (λ z more t o l. named e (Builtin Dnl) name false (longer z more q) (longer z more p) at o l (sym v)
+    (paren_longer (e.state).quotes (e.state).comments q false z more d i t) (λ y. refl) refl)
     (bare_goes q.may_follow e (with_one_call e) e1 c (λ z more. longer z more q) q (Ok turns.SkipsLine) room shallow refl
     (λ z more t o l. called_skips (with_one_call e) e1 c a (longer z more q) refl refl refl g o l) (λ z more. longer z more p))
 
@@ -156,12 +163,16 @@ pub made_moves : (e e1 : Engine) (c : Call) (listed : Bool) (name : List ℕ) (p
     → NameMoves q.may_follow e e1 p q p' r name
 made_moves e e1 c listed name p q p' (Ok u) d i j v same k =
     let f = c.definition in
-    moves_by q.may_follow e1 p' u _ _ (λ z more t o l. named e f name listed (longer z more q) (longer z more p) (place_at p) o l (sym v) (paren_longer (e.state).quotes (e.state).comments q listed z more d i t) j refl
-    ∙ ap (λ (c : Call). step (outer_of e.open_calls) (call listed c (longer z more q) (here_of o l e (longer z more p)))) (sym same)) (k (λ z more. longer z more p))
+    moves_by q.may_follow e1 p' u _ _ (λ z more t o l. named e f name listed (longer z more q) (longer z more p)
+    (place_at p) o l (sym v) (paren_longer (e.state).quotes (e.state).comments q listed z more d i t) j refl
+    ∙ ap (λ (c : Call). step (outer_of e.open_calls)
+    (call listed c (longer z more q) (here_of o l e (longer z more p)))) (sym same)) (k (λ z more. longer z more p))
 made_moves e e1 c listed name p q p' (Err y) d i j v same k = tt
 
 -- text goes where it goes
-text_goes : (cs : List Call) (x : List ℕ) (e : Engine) (p before : Pending) (o m : List ℕ) → e.open_calls ≡ cs → step (outer_of cs) (GoOn (put_text x (reading p (here_of o m (record e { open_calls = cs }) before)))) ≡ Goes (configuration o m (put_in cs x (record e { open_calls = cs })) p)
+text_goes : (cs : List Call) (x : List ℕ) (e : Engine) (p before : Pending) (o m : List ℕ) → e.open_calls ≡ cs
+    → step (outer_of cs) (GoOn (put_text x (reading p (here_of o m (record e { open_calls = cs }) before))))
+    ≡ Goes (configuration o m (put_in cs x (record e { open_calls = cs })) p)
 text_goes [] x e p before o m h = rw (append_assoc o e.output (issued (e.state).current x)) refl
 text_goes (c ∷ cs) x e p before o m h = rw (append-nil (o ++ e.output)) refl
 
@@ -193,7 +204,9 @@ word_moves e e1 name p n g before = λ z more t o l.
     ∙ ap (λ (x : Engine). Goes (configuration o l x (longer z more p))) (sym g)
 
 -- a string or a comment is text
-pub string_moves : (e e1 : Engine) (x : List ℕ) (p : Pending) → e1 ≡ with_text x e → (before : Extended) → Moves p.may_follow e1 p turns.GoesOn (λ z more o l. step (outer_of e.open_calls) (GoOn (put_text x (reading (longer z more p) (here_of o l e (before z more))))))
+pub string_moves : (e e1 : Engine) (x : List ℕ) (p : Pending) → e1 ≡ with_text x e → (before : Extended)
+    → Moves p.may_follow e1 p turns.GoesOn
+    (λ z more o l. step (outer_of e.open_calls) (GoOn (put_text x (reading (longer z more p) (here_of o l e (before z more))))))
 string_moves e e1 x p g before = λ z more t o l.
     text_goes e.open_calls x e (longer z more p) (before z more) o l refl
     ∙ ap (λ (d : Engine). Goes (configuration o l d (longer z more p))) (sym g)

@@ -90,16 +90,21 @@ not_open true c h e = let f : c ≡ true = h refl in cc
 not_open false c h e = refl
 
 -- all of it is in hand
-pub closed_rest : (p q : Pending) (before after : Option Script) (x : List ℕ) → p.may_follow ≡ false → Reads before after p x q → (q.may_follow ≡ false) × (longer [] false q ≡ p)
+pub closed_rest : (p q : Pending) (before after : Option Script) (x : List ℕ) → p.may_follow ≡ false
+    → Reads before after p x q → (q.may_follow ≡ false) × (longer [] false q ≡ p)
 closed_rest p q before after x c r =
     let still : q.may_follow ≡ false = not_open q.may_follow p.may_follow r.still c in
     (still, closed_same q still ∙ r.in_hand ∙ ap (λ (b : Bool). longer x b p) still ∙ ap (λ (y : List ℕ). longer y false p) (r.closed c).0 ∙ closed_same p c)
 
 -- nothing follows it, and its reader is not asked
-closed_so : (old : Engine) (p : Pending) (before after : Option Script) (w : Contents) (P : Ended → Type 0) → p.may_follow ≡ false → ReadSo old p before after w P → (after ≡ before) × P (input_expansion old p)
+closed_so : (old : Engine) (p : Pending) (before after : Option Script) (w : Contents) (P : Ended → Type 0)
+    → p.may_follow ≡ false → ReadSo old p before after w P → (after ≡ before) × P (input_expansion old p)
 closed_so old p before after w P c r =
-    let k = closed_rest p r.q before after r.x c r.reads in
-    (((r.reads).closed c).1, subst (λ (q : Pending). P (input_expansion old q)) k.1 (r.so [] false (subst (λ (b : Bool). MayFollow b [] false) (sym k.0) (refl, refl))))
+    let k = closed_rest p r.q before after r.x c r.reads in (
+      ((r.reads).closed c).1,
+      subst (λ (q : Pending). P (input_expansion old q)) k.1
+          (r.so [] false (subst (λ (b : Bool). MayFollow b [] false) (sym k.0) (refl, refl))),
+    )
 
 closed_fell : (old : Engine) (p : Pending) (before after : Option Script) (w : Contents) → p.may_follow ≡ false → Fell old p before after w → ⊥
 closed_fell old p before after w c f =
@@ -107,7 +112,8 @@ closed_fell old p before after w c f =
     let both : true ≡ false = sym still ∙ c in
     cc
 
-pub closed_expands : (old new : Engine) (p : Pending) (before after : Option Script) (w : Contents) (cause : Cause) → p.may_follow ≡ false → Expands old new p before after w cause → (after ≡ before) × ClosedExpands old new p w cause
+pub closed_expands : (old new : Engine) (p : Pending) (before after : Option Script) (w : Contents) (cause : Cause)
+    → p.may_follow ≡ false → Expands old new p before after w cause → (after ≡ before) × ClosedExpands old new p w cause
 closed_expands old new p before after w (causes.Frozen f) c h = absurd h
 closed_expands old new p before after w causes.Read c h = absurd (closed_fell old p before after w c h)
 closed_expands old new p before after w causes.Write c h = closed_so old p before after w _ c h
@@ -134,7 +140,8 @@ expand_reads (causes.Frozen f) old mid new e h = h ∙ e
 expand_reads causes.Write old mid new e h = h ∙ e
 expand_reads causes.OutOfMemory old mid new e h = h ∙ e
 
-pub file_reads : (cause : Cause) (result : Result Unit Stop) (old mid new : ℕ) → result ≡ answer_by cause → mid ≡ old → ReadsBy cause mid new → ReadFails result old new
+pub file_reads : (cause : Cause) (result : Result Unit Stop) (old mid new : ℕ) → result ≡ answer_by cause → mid ≡ old
+    → ReadsBy cause mid new → ReadFails result old new
 file_reads cause result old mid new r e h = subst (λ (x : Result Unit Stop). ReadFails x old new) (sym r) (expand_reads cause old mid new e h)
 
 -- ---- a file
@@ -159,11 +166,13 @@ may_end true z h = tt
 may_end false z h = (h refl, refl)
 
 -- the input of a file, and what may follow it
-pub taken_file : (name x : List ℕ) (before after : Option Script) (q : Pending) (z : List ℕ) (more : Bool) → Reads before after (unread_file name).pending x q → longer z more q ≡ file_pending name (x ++ z) more
+pub taken_file : (name x : List ℕ) (before after : Option Script) (q : Pending) (z : List ℕ) (more : Bool)
+    → Reads before after (unread_file name).pending x q → longer z more q ≡ file_pending name (x ++ z) more
 taken_file name x before after q z more r = ap (longer z more) r.in_hand
 
 -- the same where more may follow
-open_file : (name x : List ℕ) (before after : Option Script) (q : Pending) → q.may_follow ≡ true → Reads before after (unread_file name).pending x q → longer [] q.may_follow q ≡ file_pending name x true
+open_file : (name x : List ℕ) (before after : Option Script) (q : Pending) → q.may_follow ≡ true
+    → Reads before after (unread_file name).pending x q → longer [] q.may_follow q ≡ file_pending name x true
 open_file name x before after q f r = nothing_more q ∙ r.in_hand ∙ ap (λ (b : Bool). longer x b (unread_file name).pending) f
 
 -- a file was read to an end
@@ -175,16 +184,21 @@ file_done e0 e1 any_missing name before after w r =
     let still : (r.q).may_follow ≡ false = by_flag (r.q).may_follow (λ f. never_done e0 r.q f
     (ap (λ (q : Pending). (input_expansion e0 q).reason) (sym (nothing_more r.q)) ∙ (r.so [] (r.q).may_follow (nothing_follows (r.q).may_follow)).reason)) in
     let whole : r.q ≡ file_pending name r.x false = (r.reads).in_hand ∙ ap (λ (b : Bool). longer r.x b (unread_file name).pending) still in
-    let k : Expanded e0 e1 (input_expansion e0 r.q) causes.Done w = subst (λ (q : Pending). Expanded e0 e1 (input_expansion e0 q) causes.Done w) (nothing_more r.q) (r.so [] (r.q).may_follow (nothing_follows (r.q).may_follow)) in (
+    let k : Expanded e0 e1 (input_expansion e0 r.q) causes.Done w =
+    subst (λ (q : Pending). Expanded e0 e1 (input_expansion e0 q) causes.Done w) (nothing_more r.q)
+    (r.so [] (r.q).may_follow (nothing_follows (r.q).may_follow)) in (
       r.x,
       (r.reads).given,
       (r.reads).at_end refl still,
-      input_done (session_of e0 any_missing None false) e0 e1 any_missing None causes.Done (input_expansion e0 (file_pending name r.x false)) w (record { over = refl; unfinished = refl }) refl (subst (λ (q : Pending). Expanded e0 e1 (input_expansion e0 q) causes.Done w) whole k) refl,
+      input_done (session_of e0 any_missing None false) e0 e1 any_missing None causes.Done
+          (input_expansion e0 (file_pending name r.x false)) w (record { over = refl; unfinished = refl }) refl
+          (subst (λ (q : Pending). Expanded e0 e1 (input_expansion e0 q) causes.Done w) whole k) refl,
       refl,
     )
 
 -- where its last bytes were asked for; where it gave none, all that was made before is settled
-file_asked : (e0 : Engine) (any_missing : Bool) (name x o m : List ℕ) (w : Contents) → HasWritten o m w → (x ≡ []) ⊎ LastAsked e0 (unread_file name).pending x w → FileAsked (session_of e0 any_missing None false) name x w
+file_asked : (e0 : Engine) (any_missing : Bool) (name x o m : List ℕ) (w : Contents) → HasWritten o m w
+    → (x ≡ []) ⊎ LastAsked e0 (unread_file name).pending x w → FileAsked (session_of e0 any_missing None false) name x w
 file_asked e0 any_missing name x o m w h (inl n) = record {
   asked = [];
   last = [];
@@ -222,11 +236,14 @@ file_ended e0 e1 any_missing name cause before after w o r = (
     asked =
         let k = r.so [] (r.q).may_follow (nothing_follows (r.q).may_follow) in
         file_asked e0 any_missing name r.x _ _ w (record { output = k.output; messages = k.messages }) r.asked;
-    so = λ z e. input_done (session_of e0 any_missing None false) e0 e1 any_missing (Some cause) cause (input_expansion e0 (file_pending name (r.x ++ z) false)) w (record { over = refl; unfinished = refl }) refl
-        (subst (λ (q : Pending). Expanded e0 e1 (input_expansion e0 q) cause w) (taken_file name r.x before after r.q z false r.reads) (r.so z false (may_end (r.q).may_follow z e))) o;
+    so = λ z e. input_done (session_of e0 any_missing None false) e0 e1 any_missing (Some cause) cause
+        (input_expansion e0 (file_pending name (r.x ++ z) false)) w (record { over = refl; unfinished = refl }) refl
+        (subst (λ (q : Pending). Expanded e0 e1 (input_expansion e0 q) cause w)
+        (taken_file name r.x before after r.q z false r.reads) (r.so z false (may_end (r.q).may_follow z e))) o;
   },
   refl,
-  λ f. (subst (λ (q : Pending). Expanded e0 e1 (input_expansion e0 q) cause w) (open_file name r.x before after r.q f r.reads) (r.so [] (r.q).may_follow (nothing_follows (r.q).may_follow))).reason,
+  λ f. (subst (λ (q : Pending). Expanded e0 e1 (input_expansion e0 q) cause w)
+      (open_file name r.x before after r.q f r.reads) (r.so [] (r.q).may_follow (nothing_follows (r.q).may_follow))).reason,
 )
 
 -- a file broke off
@@ -243,13 +260,17 @@ file_broke e0 e1 any_missing name cause before after w r = (
     asked =
         let k = r.so [] (r.q).may_follow (nothing_follows (r.q).may_follow) in
         file_asked e0 any_missing name r.x _ _ w (record { output = ((k.output).1).holds; messages = ((k.messages).1).holds }) r.asked;
-    so = λ z e. subst (λ (q : Pending). Broken (input_expansion e0 q) w) (taken_file name r.x before after r.q z false r.reads) (r.so z false (may_end (r.q).may_follow z e));
+    so = λ z e. subst (λ (q : Pending). Broken (input_expansion e0 q) w)
+        (taken_file name r.x before after r.q z false r.reads) (r.so z false (may_end (r.q).may_follow z e));
   },
   record { live = record { over = refl; unfinished = refl }; over = refl },
 )
 
 -- its reader failed
-file_fell : (e0 e1 : Engine) (any_missing : Bool) (name : List ℕ) (before after : Option Script) (w : Contents) → Fell e0 (unread_file name).pending before after w → FileFell name before after (session_of e0 any_missing None false) (session_of (at_rest e1) any_missing (Some causes.Read) false) w
+file_fell : (e0 e1 : Engine) (any_missing : Bool) (name : List ℕ) (before after : Option Script) (w : Contents)
+    → Fell e0 (unread_file name).pending before after w
+    → FileFell name before after (session_of e0 any_missing None false)
+    (session_of (at_rest e1) any_missing (Some causes.Read) false) w
 file_fell e0 e1 any_missing name before after w f = record {
   x = f.x;
   given = (f.reads).given;
@@ -277,20 +298,26 @@ by_cause e0 e1 any_missing name causes.Write before after w d = file_broke e0 e1
 by_cause e0 e1 any_missing name causes.OutOfMemory before after w d = file_broke e0 e1 any_missing name causes.OutOfMemory before after w d
 
 -- a session that goes on
-open_is : (old : SessionState) (e0 : Engine) (any_missing : Bool) (over : Option Cause) (finished : Bool) → old ≡ session_of e0 any_missing over finished → IsOpen old → (over ≡ None) × (finished ≡ false)
-open_is old e0 any_missing over finished o l = (sym (ap (λ (s : SessionState). s.over) o) ∙ l.over, sym (ap (λ (s : SessionState). s.finished) o) ∙ l.unfinished)
+open_is : (old : SessionState) (e0 : Engine) (any_missing : Bool) (over : Option Cause) (finished : Bool)
+    → old ≡ session_of e0 any_missing over finished → IsOpen old → (over ≡ None) × (finished ≡ false)
+open_is old e0 any_missing over finished o l =
+    (sym (ap (λ (s : SessionState). s.over) o) ∙ l.over, sym (ap (λ (s : SessionState). s.finished) o) ∙ l.unfinished)
 
 -- a session before an input and after it, and the answer, as the clause of the call has them
-module _ (To : SessionState → SessionState → Result Unit Stop → Type 0) (old new : SessionState) (e0 e1 e2 : Engine) (any_missing : Bool) (over : Option Cause) (finished : Bool) (cause : Cause) (result : Result Unit Stop) where
+module _ (To : SessionState → SessionState → Result Unit Stop → Type 0) (old new : SessionState) (e0 e1 e2 : Engine)
+    (any_missing : Bool) (over : Option Cause) (finished : Bool) (cause : Cause) (result : Result Unit Stop) where
   unchanged_session : old ≡ session_of e0 any_missing over finished → IsOpen old → e2 ≡ at_rest e1
       → new ≡ session_of e2 any_missing (over_after cause over) finished → result ≡ answer_by cause
       → To (session_of e0 any_missing None false) (session_of (at_rest e1) any_missing (over_after cause None) false)
       (answer_by cause) → To old new result
   unchanged_session o l z v r g =
       let k = open_is old e0 any_missing over finished o l in
-      let o' : old ≡ session_of e0 any_missing None false = o ∙ ap (λ x. session_of e0 any_missing x finished) k.0 ∙ ap (λ x. session_of e0 any_missing None x) k.1 in
+      let o' : old ≡ session_of e0 any_missing None false = o ∙ ap (λ x. session_of e0 any_missing x finished) k.0
+      ∙ ap (λ x. session_of e0 any_missing None x) k.1 in
       let v' : new ≡ session_of (at_rest e1) any_missing (over_after cause None) false =
-      v ∙ ap (λ (x : Engine). session_of x any_missing (over_after cause over) finished) z ∙ ap (λ x. session_of (at_rest e1) any_missing (over_after cause x) finished) k.0 ∙ ap (λ x. session_of (at_rest e1) any_missing (over_after cause None) x) k.1 in
+      v ∙ ap (λ (x : Engine). session_of x any_missing (over_after cause over) finished) z
+      ∙ ap (λ x. session_of (at_rest e1) any_missing (over_after cause x) finished) k.0
+      ∙ ap (λ x. session_of (at_rest e1) any_missing (over_after cause None) x) k.1 in
       subst (λ (x : SessionState). To x new result) (sym o')
       (subst (λ (x : SessionState). To (session_of e0 any_missing None false) x result) (sym v')
       (subst (To (session_of e0 any_missing None false) (session_of (at_rest e1) any_missing (over_after cause None) false)) (sym r) g))
@@ -313,7 +340,9 @@ module _ (old : SessionState) (e0 e1 : Engine) (any_missing : Bool) (p : Pending
   abbrev To : Cause → Type 0
   To cause = WrapsGive (after_input d any_missing) old (session_of (at_rest e1) any_missing (over_after cause None) false) w (answer_by cause)
 
-  ends_by : (cause : Cause) → Expanded e0 e1 d cause w → how_over (Some cause) ≡ over_by cause → Completed old (session_of (at_rest e1) any_missing (Some cause) false) (after_input d any_missing) w × (Some cause ≡ Some cause)
+  ends_by : (cause : Cause) → Expanded e0 e1 d cause w → how_over (Some cause) ≡ over_by cause
+      → Completed old (session_of (at_rest e1) any_missing (Some cause) false) (after_input d any_missing) w
+      × (Some cause ≡ Some cause)
   ends_by cause k o = (input_done old e0 e1 any_missing (Some cause) cause d w l e k o, refl)
 
   breaks_by : (cause : Cause) → Broken d w → BrokeOff (session_of (at_rest e1) any_missing (Some cause) false) (after_input d any_missing) w cause
@@ -342,19 +371,26 @@ pub round_gives : (old new : SessionState) (e0 ea e1 e2 : Engine) (any_missing :
 round_gives old new e0 ea e1 e2 any_missing over finished x i before after w cause result o l a j n d z v r =
     let taken : Engine = record e0 { saved = [] } in
     let p : Pending = wrapped_pending (joined_back e0.saved) in
-    let k : Expands taken e1 p before after w cause = subst (λ (y : Engine). Expands y e1 p before after w cause) a (subst (λ (y : Pending). Expands ea e1 y before after w cause) (ap (λ (h : Held). h.pending) n ∙ ap wrapped_pending j) d) in
+    let k : Expands taken e1 p before after w cause =
+    subst (λ (y : Engine). Expands y e1 p before after w cause) a
+    (subst (λ (y : Pending). Expands ea e1 y before after w cause)
+    (ap (λ (h : Held). h.pending) n ∙ ap wrapped_pending j) d) in
     unchanged_session (λ a b y. WrapsGive (round_of a) a b w y) old new e0 e1 e2 any_missing over finished cause result o l z v r
-    (round_by (session_of e0 any_missing None false) taken e1 any_missing p w (record { over = refl; unfinished = refl }) refl cause (closed_expands taken e1 p before after w cause refl k).1)
+    (round_by (session_of e0 any_missing None false) taken e1 any_missing p w
+    (record { over = refl; unfinished = refl }) refl cause (closed_expands taken e1 p before after w cause refl k).1)
 
 -- a round whose text could not be made
-lacked_by : (new : SessionState) (p : Progress) (w : Contents) → new.over ≡ Some causes.OutOfMemory → w.out_new ≡ w.out_old → w.messages_new ≡ w.messages_old → BrokeOff new p w causes.OutOfMemory
+lacked_by : (new : SessionState) (p : Progress) (w : Contents) → new.over ≡ Some causes.OutOfMemory
+    → w.out_new ≡ w.out_old → w.messages_new ≡ w.messages_old → BrokeOff new p w causes.OutOfMemory
 lacked_by new p w v o m = record {
   over = v;
   output = subst (λ x. HasBegun w.out_old x (p.so_far).output) (sym o) (nothing_begun w.out_old (p.so_far).output);
   messages = subst (λ x. HasBegun w.messages_old x (p.so_far).messages) (sym m) (nothing_begun w.messages_old (p.so_far).messages);
 }
 
-pub round_lacked : (old new : SessionState) (w : Contents) (r : Result Unit Stop) → r ≡ Err (stops.Ended causes.OutOfMemory) → new.over ≡ Some causes.OutOfMemory → w.out_new ≡ w.out_old → w.messages_new ≡ w.messages_old → WrapsGive (round_of old) old new w r
+pub round_lacked : (old new : SessionState) (w : Contents) (r : Result Unit Stop)
+    → r ≡ Err (stops.Ended causes.OutOfMemory) → new.over ≡ Some causes.OutOfMemory → w.out_new ≡ w.out_old
+    → w.messages_new ≡ w.messages_old → WrapsGive (round_of old) old new w r
 round_lacked old new w r i v o m =
     subst (λ (x : Result Unit Stop). WrapsGive (round_of old) old new w x) (sym i) (lacked_by new (round_of old) w v o m, tt)
 
@@ -367,11 +403,14 @@ after_is s l e =
     ∙ sym (ap (λ (o : Option Cause). progress_of (record s { over = o })) l.over)
 
 -- the output of a run after its saved texts, if none is saved
-ended_output : (freezes : Bool) (s : SessionState) → s.over ≡ None → (result_of freezes [] (progress_of s)).output ≡ closed_output freezes (progress_of s).so_far
+ended_output : (freezes : Bool) (s : SessionState) → s.over ≡ None
+    → (result_of freezes [] (progress_of s)).output ≡ closed_output freezes (progress_of s).so_far
 ended_output freezes s e = ap (λ (o : Option Cause). (result_of freezes [] (progress_of (record s { over = o }))).output) e
 
 -- the end of a run broke off, with so much of the rest written
-broke_off : (freezes : Bool) (old new : SessionState) (w : Contents) (cause : Cause) → IsOpen old → old.saved ≡ [] → new.over ≡ Some cause → w.messages_new ≡ w.messages_old → HasBegun w.out_old w.out_new (closed_output freezes (progress_of old).so_far) → Unfinished freezes old new w cause
+broke_off : (freezes : Bool) (old new : SessionState) (w : Contents) (cause : Cause) → IsOpen old → old.saved ≡ []
+    → new.over ≡ Some cause → w.messages_new ≡ w.messages_old
+    → HasBegun w.out_old w.out_new (closed_output freezes (progress_of old).so_far) → Unfinished freezes old new w cause
 broke_off freezes old new w cause l e o m h =
     let p : progress_of old ≡ session_after_wraps old = sym (after_is old l e) in
     record {
@@ -383,7 +422,9 @@ broke_off freezes old new w cause l e o m h =
     }
 
 -- the diversions could not be issued
-pub finish_broke : (old new : SessionState) (w : Contents) (r : Result Unit Stop) → IsOpen old → old.saved ≡ [] → r ≡ Err (stops.Ended causes.Write) → new.over ≡ Some causes.Write → w.messages_new ≡ w.messages_old → HasBegun w.out_old w.out_new (close old.state) → FinishGives old new w r
+pub finish_broke : (old new : SessionState) (w : Contents) (r : Result Unit Stop) → IsOpen old → old.saved ≡ []
+    → r ≡ Err (stops.Ended causes.Write) → new.over ≡ Some causes.Write → w.messages_new ≡ w.messages_old
+    → HasBegun w.out_old w.out_new (close old.state) → FinishGives old new w r
 finish_broke old new w r l e i o m h = subst (λ (x : Result Unit Stop). FinishGives old new w x) (sym i) (broke_off false old new w causes.Write l e o m h)
 
 -- the diversions were issued
@@ -450,12 +491,14 @@ pub freeze_broke : (old new : SessionState) (s : State) (r : Result Unit Stop) (
     → FreezeGives old new
     (record { two = writers out out reported reported; frozen_old = frozen; frozen_new = frozen' }) r
 freeze_broke old new s r out reported frozen frozen' l v i k o f =
-    subst (λ (x : Result Unit Stop). FreezeGives old new (record { two = writers out out reported reported; frozen_old = frozen; frozen_new = frozen' }) x) (sym k) (
+    subst (λ (x : Result Unit Stop). FreezeGives old new
+    (record { two = writers out out reported reported; frozen_old = frozen; frozen_new = frozen' }) x) (sym k) (
       broke_off true old new (writers out out reported reported) causes.Write l v o refl (nothing_begun out _),
       inr (freeze_began old s out reported frozen frozen' l v i f),
     )
 
 -- the end of a run, of the writers of output and messages
-pub close_ends : (freezes : Bool) (old new : SessionState) (w : Three (Option (List ℕ))) (r : Result Unit Stop) → CloseGives freezes old new w r → EndGives freezes old new w.two r
+pub close_ends : (freezes : Bool) (old new : SessionState) (w : Three (Option (List ℕ))) (r : Result Unit Stop)
+    → CloseGives freezes old new w r → EndGives freezes old new w.two r
 close_ends true old new w r h = h.0
 close_ends false old new w r h = h.0

@@ -69,13 +69,17 @@ module _ (o m : List ℕ) (c calls calls' nesting nesting' : ℕ) (room : (k : �
 
   -- text and messages go consumed what there was
   text_after : (x : List ℕ) (s : Expansion) → put_text x (B s) ≡ B (put_text x s)
-  text_after x s = ap (λ (y : List ℕ). record (B (put_text x s)) { so_far = record (B (put_text x s)).so_far { output = y } }) (append_assoc o (s.so_far).output _)
+  text_after x s = ap (λ (y : List ℕ). record (B (put_text x s))
+      { so_far = record (B (put_text x s)).so_far { output = y } }) (append_assoc o (s.so_far).output _)
 
-  reported_after : (x : List ℕ) (r : RunSoFar) → record (after_record o m c r) { messages = (m ++ r.messages) ++ x } ≡ after_record o m c (record r { messages = r.messages ++ x })
+  reported_after : (x : List ℕ) (r : RunSoFar)
+      → record (after_record o m c r) { messages = (m ++ r.messages) ++ x }
+      ≡ after_record o m c (record r { messages = r.messages ++ x })
   reported_after x r = ap (λ (y : List ℕ). record (after_record o m c r) { messages = y }) (append_assoc m r.messages x)
 
   count_follows : (s : Expansion) → with_call (B s) ≡ B (with_call s)
-  count_follows s = ap (λ (n : ℕ). record (B s) { so_far = record (B s).so_far { calls = n } }) (let e : suc (c + (s.so_far).calls) ≡ c + suc (s.so_far).calls = omega arith in e)
+  count_follows s = ap (λ (n : ℕ). record (B s) { so_far = record (B s).so_far { calls = n } })
+      (let e : suc (c + (s.so_far).calls) ≡ c + suc (s.so_far).calls = omega arith in e)
 
   skipped_all_meets : (b : Bool) (s : Expansion) → HasLimits s → MeetsOut (skip_all b (B s)) (skip_all b s)
   unfolding MeetsOut
@@ -105,7 +109,8 @@ module _ (o m : List ℕ) (c calls calls' nesting nesting' : ℕ) (room : (k : �
 
   called_meets : (k : Call) (t : Expansion) (f : Kept) → HasLimits t → MeetsOut (called k (B t) f) (called k t f)
   called_meets k t f l =
-      subst (λ x. MeetsOut (effected ((acted_at k t).effect).exit ((acted_at k t).effect).skip ((acted_at k t).effect).push x) (called k t f)) (sym (call_after k t f))
+      subst (λ x. MeetsOut (effected ((acted_at k t).effect).exit ((acted_at k t).effect).skip
+      ((acted_at k t).effect).push x) (called k t f)) (sym (call_after k t f))
       (effected_meets ((acted_at k t).effect).exit ((acted_at k t).effect).skip ((acted_at k t).effect).push (after_call k t f) l)
 
   bare_meets : (v w : Outcome Expansion Ended) → MeetsOut v w → Meets (bare v) (bare w)
@@ -126,7 +131,8 @@ module _ (o m : List ℕ) (c calls calls' nesting nesting' : ℕ) (room : (k : �
   abbrev failing : Call → List ℕ → Cause → RunSoFar → Turn Expansion Kept Ended
   failing k x h r = Halt (failed k x h r)
 
-  fails_after : (x y : List ℕ) (h : Cause) (k : Call) (r : RunSoFar) → x ≡ y → (e : Ended) × (failing k y h r ≡ Halt e) × (failed k x h (after_record o m c r) ≡ Bd e)
+  fails_after : (x y : List ℕ) (h : Cause) (k : Call) (r : RunSoFar) → x ≡ y
+      → (e : Ended) × (failing k y h r ≡ Halt e) × (failed k x h (after_record o m c r) ≡ Bd e)
   fails_after x y h k r e = (
     failed k y h r,
     refl,
@@ -134,7 +140,9 @@ module _ (o m : List ℕ) (c calls calls' nesting nesting' : ℕ) (room : (k : �
         ∙ ap (λ (q : RunSoFar). let d : Ended = record { so_far = q; reason = Ends h } in d) (reported_after (error k.place y) r),
   )
 
-  enter_meets : (deep deep' listed : Bool) (k : Call) (p : Pending) (s : Expansion) → (deep ≡ false → deep' ≡ false) → (deep ≡ true → nesting ≡ nesting' → deep' ≡ true) → HasLimits s → Meets (call_unless_deep deep listed k p (B s)) (call_unless_deep deep' listed k p s)
+  enter_meets : (deep deep' listed : Bool) (k : Call) (p : Pending) (s : Expansion) → (deep ≡ false → deep' ≡ false)
+      → (deep ≡ true → nesting ≡ nesting' → deep' ≡ true) → HasLimits s
+      → Meets (call_unless_deep deep listed k p (B s)) (call_unless_deep deep' listed k p s)
   unfolding Meets
   enter_meets true deep' listed k p s h g l =
       ⊎_elim (λ x. inl x)
@@ -143,7 +151,9 @@ module _ (o m : List ℕ) (c calls calls' nesting nesting' : ℕ) (room : (k : �
       (ap (λ n. codes "more than " ++ decimal n ++ codes " nested calls") (e ∙ sym l.1)) in
       (f.0, ap (λ d. call_unless_deep d listed k p s) (g refl e) ∙ f.1, f.2)))
       at_nesting
-  enter_meets false deep' listed k p s h g l = subst (λ d. Meets (call_unless_deep false listed k p (B s)) (call_unless_deep d listed k p s)) (sym (h refl)) (enter_list_meets listed k p s l)
+  enter_meets false deep' listed k p s h g l =
+      subst (λ d. Meets (call_unless_deep false listed k p (B s)) (call_unless_deep d listed k p s)) (sym (h refl))
+      (enter_list_meets listed k p s l)
 
   deep_after : (s : Expansion) → HasLimits s → is_deep (B s) ≡ false → is_deep s ≡ false
   deep_after s l e = subst (λ (n : ℕ). (nat_lt 0 n && nat_lt n (suc s.open_calls)) ≡ false) (sym l.1) (depth (suc s.open_calls) e)
@@ -151,7 +161,9 @@ module _ (o m : List ℕ) (c calls calls' nesting nesting' : ℕ) (room : (k : �
   deep_same : (s : Expansion) → HasLimits s → is_deep (B s) ≡ true → nesting ≡ nesting' → is_deep s ≡ true
   deep_same s l e f = subst (λ (n : ℕ). (nat_lt 0 n && nat_lt n (suc s.open_calls)) ≡ true) (f ∙ sym l.1) e
 
-  call_if_meets : (r r' listed : Bool) (k : Call) (p : Pending) (s : Expansion) → (r ≡ true → r' ≡ true) → (r ≡ false → c ≡ 0 → calls ≡ calls' → r' ≡ false) → HasLimits s → Meets (call_if_room r listed k p (B s)) (call_if_room r' listed k p s)
+  call_if_meets : (r r' listed : Bool) (k : Call) (p : Pending) (s : Expansion) → (r ≡ true → r' ≡ true)
+      → (r ≡ false → c ≡ 0 → calls ≡ calls' → r' ≡ false) → HasLimits s
+      → Meets (call_if_room r listed k p (B s)) (call_if_room r' listed k p s)
   unfolding Meets
   call_if_meets false r' listed k p s h g l =
       ⊎_elim (λ x. inl x)
@@ -174,7 +186,8 @@ module _ (o m : List ℕ) (c calls calls' nesting nesting' : ℕ) (room : (k : �
   room_test : (s : Expansion) → HasLimits s → nat_lt (c + (s.so_far).calls) calls ≡ true → nat_lt (s.so_far).calls (s.limits).calls ≡ true
   room_test s l e = subst (λ (n : ℕ). nat_lt (s.so_far).calls n ≡ true) (sym l.0) (lt_true _ _ (room (s.so_far).calls (true_lt _ _ e)))
 
-  none_test : (s : Expansion) → HasLimits s → nat_lt (c + (s.so_far).calls) calls ≡ false → c ≡ 0 → calls ≡ calls' → nat_lt (s.so_far).calls (s.limits).calls ≡ false
+  none_test : (s : Expansion) → HasLimits s → nat_lt (c + (s.so_far).calls) calls ≡ false → c ≡ 0 → calls ≡ calls'
+      → nat_lt (s.so_far).calls (s.limits).calls ≡ false
   none_test s l e f g =
       let h : c + (s.so_far).calls ≡ (s.so_far).calls = omega arith in
       ap (nat_lt (s.so_far).calls) (l.0 ∙ sym g) ∙ ap (λ n. nat_lt n calls) (sym h) ∙ e
@@ -222,7 +235,12 @@ module _ (o m : List ℕ) (c calls calls' nesting nesting' : ℕ) (room : (k : �
   on_end_meets : (h : Mode) (s : Expansion) → HasLimits s → Meets (take_end h (B s)) (take_end h s)
   unfolding Meets
   on_end_meets Outside s l = inr (_, refl, refl)
-  on_end_meets (Collecting k) s l = inr (_, refl, ap (λ (r : RunSoFar). let d : Ended = record { so_far = r; reason = Ends causes.EndInArguments } in d) (reported_after _ s.so_far))
+  on_end_meets (Collecting k) s l = inr (
+    _,
+    refl,
+    ap (λ (r : RunSoFar). let d : Ended = record { so_far = r; reason = Ends causes.EndInArguments } in d)
+        (reported_after _ s.so_far),
+  )
 
   on_token_meets : (t : Token) (p : Pending) (s : Expansion) → HasLimits s → Meets (take_token t p (B s)) (take_token t p s)
   unfolding Meets
@@ -236,7 +254,12 @@ module _ (o m : List ℕ) (c calls calls' nesting nesting' : ℕ) (room : (k : �
   on_seen_meets : (v : Front) (s : Expansion) → HasLimits s → Meets (take_front v (B s)) (take_front v s)
   unfolding Meets
   on_seen_meets (Taken t p) s l = on_token_meets t p s l
-  on_seen_meets (Refused f n) s l = inr (_, refl, ap (λ (r : RunSoFar). let d : Ended = record { so_far = r; reason = Ends (unended_cause f) } in d) (reported_after _ s.so_far))
+  on_seen_meets (Refused f n) s l = inr (
+    _,
+    refl,
+    ap (λ (r : RunSoFar). let d : Ended = record { so_far = r; reason = Ends (unended_cause f) } in d)
+        (reported_after _ s.so_far),
+  )
   on_seen_meets More s l = inr (_, refl, refl)
 
   pub turn_meets : (s : Expansion) → HasLimits s → Meets (turn (B s)) (turn s)

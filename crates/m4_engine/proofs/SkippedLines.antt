@@ -35,7 +35,9 @@ no_further (Some k) = let e : k ≡ 0 + k = omega arith in ap Some e
 line_beyond : (x z : List ℕ) → line_length x ≡ None → line_length (x ++ z) ≡ further (length x) (line_length z)
 line_beyond [] z e = no_further (line_length z)
 line_beyond (c ∷ x) z e =
-    let P : Bool → Type 0 = λ v. ◌≡◌ {A = Option ℕ} (elim v [ true ↦ Some 1 | false ↦ one_more (line_length x) ]) None → ◌≡◌ {A = Option ℕ} (elim v [ true ↦ Some 1 | false ↦ one_more (line_length (x ++ z)) ]) (further (suc (length x)) (line_length z)) in
+    let P : Bool → Type 0 = λ v. ◌≡◌ {A = Option ℕ} (elim v [ true ↦ Some 1 | false ↦ one_more (line_length x) ]) None
+    → ◌≡◌ {A = Option ℕ} (elim v [ true ↦ Some 1 | false ↦ one_more (line_length (x ++ z)) ])
+    (further (suc (length x)) (line_length z)) in
     (elim (c == 10) as P [
       | true ↦ λ f. absurd (some_none 1 f)
       | false ↦ λ f. ap one_more (line_beyond x z (not_one_more (line_length x) f)) ∙ one_further (length x) (line_length z)
@@ -72,20 +74,26 @@ module _ (s : Expansion) (p : Pending) (z : List ℕ) (b : Bool) where
       let P : Bool → Type 0 = λ v. b ≡ v → skip_all v (reading (longer z b p) s) ≡ skip_all v (reading (longer z b (all_read p)) s) in
       (elim b as P [ true ↦ λ h. refl | false ↦ λ h. ap (λ (q : Pending). Closed (reading q s)) all_after ]) refl
 
-  pub skip_cut : line_length (text_of p) ≡ None → skip_line (line_length (text_of (longer z b p))) (reading (longer z b p) s) ≡ skip_line (line_length (text_of (longer z b (all_read p)))) (reading (longer z b (all_read p)) s)
+  pub skip_cut : line_length (text_of p) ≡ None
+      → skip_line (line_length (text_of (longer z b p))) (reading (longer z b p) s)
+      ≡ skip_line (line_length (text_of (longer z b (all_read p)))) (reading (longer z b (all_read p)) s)
   skip_cut h =
       ap (λ v. skip_line v (reading (longer z b p) s)) (ap line_length (text_longer z b p) ∙ line_beyond (text_of p) z h)
       ∙ skip_by (line_length z)
       ∙ ap (λ (x : List ℕ). skip_line (line_length x) (reading (longer z b (all_read p)) s)) (sym text_then)
 
-  skip_found : (k : ℕ) → line_length (text_of p) ≡ Some k → skip_line (line_length (text_of (longer z b p))) (reading (longer z b p) s) ≡ Closed (reading (longer z b (consumed k p)) s)
+  skip_found : (k : ℕ) → line_length (text_of p) ≡ Some k
+      → skip_line (line_length (text_of (longer z b p))) (reading (longer z b p) s)
+      ≡ Closed (reading (longer z b (consumed k p)) s)
   skip_found k h =
       let l = line_stays z b (text_of p) k h in
       ap (λ v. skip_line v (reading (longer z b p) s)) (ap line_length (text_longer z b p) ∙ l.0)
       ∙ ap (λ (q : Pending). Closed (reading q s)) (consumed_longer z b k p l.1)
 
 -- the rest of the line is in hand
-found_by : (o : Option ℕ) (s : Expansion) (p q : Pending) (z : List ℕ) (more : Bool) → line_length (text_of p) ≡ o → p.may_follow ≡ true → after_line_of o p ≡ Some q → skip_line (line_length (text_of (longer z more p))) (reading (longer z more p) s) ≡ Closed (reading (longer z more q) s)
+found_by : (o : Option ℕ) (s : Expansion) (p q : Pending) (z : List ℕ) (more : Bool) → line_length (text_of p) ≡ o
+    → p.may_follow ≡ true → after_line_of o p ≡ Some q
+    → skip_line (line_length (text_of (longer z more p))) (reading (longer z more p) s) ≡ Closed (reading (longer z more q) s)
 found_by (Some n) s p q z more l m h =
     let g : consumed n p ≡ q = cc in
     skip_found s p z more n l ∙ ap (λ (r : Pending). Closed (reading (longer z more r) s)) g
@@ -94,7 +102,8 @@ found_by None s p q z more l m h =
     cc
 
 -- all of the line is in hand, since nothing follows
-ended_by : (o : Option ℕ) (s : Expansion) (p q : Pending) → p.may_follow ≡ false → after_line_of o p ≡ Some q → (skip_line o (reading p s) ≡ Closed (reading q s)) × (q.may_follow ≡ false)
+ended_by : (o : Option ℕ) (s : Expansion) (p q : Pending) → p.may_follow ≡ false → after_line_of o p ≡ Some q
+    → (skip_line o (reading p s) ≡ Closed (reading q s)) × (q.may_follow ≡ false)
 ended_by (Some n) s p q f h =
     let g : consumed n p ≡ q = cc in
     (ap (λ (r : Pending). Closed (reading r s)) g, ap (λ (r : Pending). r.may_follow) (sym g) ∙ f)
@@ -103,15 +112,20 @@ ended_by None s p q f h =
     let i : all_read p ≡ q = cc in
     (ap (λ (b : Bool). skip_all b (reading p s)) f ∙ ap (λ (r : Pending). Closed (reading r s)) i, ap (λ (r : Pending). r.may_follow) (sym i) ∙ f)
 
-by_flag : (may : Bool) (s : Expansion) (p q : Pending) (z : List ℕ) (more : Bool) → p.may_follow ≡ may → MayFollow may z more → after_line p ≡ Some q → skip_line (line_length (text_of (longer z more p))) (reading (longer z more p) s) ≡ Closed (reading (longer z more q) s)
+by_flag : (may : Bool) (s : Expansion) (p q : Pending) (z : List ℕ) (more : Bool) → p.may_follow ≡ may
+    → MayFollow may z more → after_line p ≡ Some q
+    → skip_line (line_length (text_of (longer z more p))) (reading (longer z more p) s) ≡ Closed (reading (longer z more q) s)
 by_flag true s p q z more f c h = found_by (line_length (text_of p)) s p q z more refl f h
 by_flag false s p q z more f c h =
     let k = ended_by (line_length (text_of p)) s p q f h in
     let at : Pending → Type 0 = λ r. skip_line (line_length (text_of r)) (reading r s) ≡ Closed (reading (longer z more q) s) in
-    let same : (r : Pending) → r.may_follow ≡ false → longer z more r ≡ r = λ r g. ap (λ (b : Bool). longer z b r) c.1 ∙ ap (λ (x : List ℕ). longer x false r) c.0 ∙ closed_same r g in
+    let same : (r : Pending) → r.may_follow ≡ false → longer z more r ≡ r = λ r g. ap (λ (b : Bool). longer z b r) c.1
+    ∙ ap (λ (x : List ℕ). longer x false r) c.0 ∙ closed_same r g in
     subst at (sym (same p f)) (k.0 ∙ ap (λ (r : Pending). Closed (reading r s)) (sym (same q k.1)))
 
-pub line_done : (s : Expansion) (p q : Pending) (z : List ℕ) (more : Bool) → MayFollow p.may_follow z more → after_line p ≡ Some q → skip_line (line_length (text_of (longer z more p))) (reading (longer z more p) s) ≡ Closed (reading (longer z more q) s)
+pub line_done : (s : Expansion) (p q : Pending) (z : List ℕ) (more : Bool) → MayFollow p.may_follow z more
+    → after_line p ≡ Some q → skip_line (line_length (text_of (longer z more p))) (reading (longer z more p) s)
+    ≡ Closed (reading (longer z more q) s)
 line_done s p q z more c h = by_flag p.may_follow s p q z more refl c h
 
 -- the flag after a line

@@ -29,7 +29,8 @@ use Rattle.m4_engine.proofs.Begins.{nothing_begun}
 
 -- the source is what was read, and what may follow it
 abbrev pub Suits : List ℕ → Option Script → Option Script → Source → Type 0
-Suits name before after s = (x : List ℕ) (more : Bool) → before ≡ after_bytes x after → (more ≡ false → IsAtEnd after) → (z : List ℕ) × (more ≡ false → z ≡ []) × (s ≡ Opened name (x ++ z))
+Suits name before after s = (x : List ℕ) (more : Bool) → before ≡ after_bytes x after → (more ≡ false → IsAtEnd after)
+    → (z : List ℕ) × (more ≡ false → z ≡ []) × (s ≡ Opened name (x ++ z))
 
 -- a reader whose bytes are known and that ends
 all_given : (name : List ℕ) (before after : Option Script) (s : Source) → opened_source name before ≡ Some s → Suits name before after s
@@ -55,45 +56,65 @@ may_suit name (Some b) (Some e) (Opened n bytes) m x more g a =
     let t : k.taken ≡ x = append_cancel_right k.taken x e.bytes (sym k.given ∙ f) in
     (k.more, (λ h. k.ended (a h).0 (a h).1), ap (λ y. Opened y bytes) m.0 ∙ ap (Opened name) (k.begins ∙ ap (λ y. y ++ k.more) t))
 
-pub described_suit : {R : Type 0} (script : R → Option Script) (name : List ℕ) (r : R) (after : RunSource R) (s : Source) → DescribesSource script (sources.Opened name r) after s → Suits name (script r) (script_of script after) s
+pub described_suit : {R : Type 0} (script : R → Option Script) (name : List ℕ) (r : R) (after : RunSource R)
+    (s : Source) → DescribesSource script (sources.Opened name r) after s → Suits name (script r) (script_of script after) s
 described_suit script name r after s (inl t) = all_given name (script r) (script_of script after) s t
 described_suit script name r after s (inr m) = may_suit name (script r) (script_of script after) s m
 
 -- what is so of all that may follow is so of the source
-pub so_of : (name : List ℕ) (before after : Option Script) (s : Source) (Q : List ℕ → Type 0) (P : Source → Type 0) → Suits name before after s → FileRead before after Q (λ bytes. P (Opened name bytes)) → P s
+pub so_of : (name : List ℕ) (before after : Option Script) (s : Source) (Q : List ℕ → Type 0) (P : Source → Type 0)
+    → Suits name before after s → FileRead before after Q (λ bytes. P (Opened name bytes)) → P s
 so_of name before after s Q P t h =
     let k = t h.x h.may_follow h.given h.at_end in
     subst P (sym k.2) (h.so k.0 k.1)
 
 -- an open session reads a file
-pub source_is : (old : SessionState) (name x : List ℕ) → IsOpen old → (after_source old.limits (Opened name x) (progress_of old)).so_far ≡ (file old.limits (progress_of old).so_far name x).so_far
+pub source_is : (old : SessionState) (name x : List ℕ) → IsOpen old
+    → (after_source old.limits (Opened name x) (progress_of old)).so_far
+    ≡ (file old.limits (progress_of old).so_far name x).so_far
 source_is old name x l = ap (λ (o : Option Cause). (after_source old.limits (Opened name x) (record (progress_of old) { over = how_over o })).so_far) l.over
 
 silent_begun : (o n : Option (List ℕ)) (x : List ℕ) → n ≡ o → HasBegun o n x
 silent_begun o n x e = subst (λ (y : Option (List ℕ)). HasBegun o y x) (sym e) (nothing_begun o x)
 
 -- it was read to its end
-done_goes : (old new : SessionState) (name : List ℕ) (before after : Option Script) (w : Contents) (s : Source) → Suits name before after s → FileDone name before after old new w → Completed old new (after_source old.limits s (progress_of old)) w × (new.over ≡ None)
+done_goes : (old new : SessionState) (name : List ℕ) (before after : Option Script) (w : Contents) (s : Source)
+    → Suits name before after s → FileDone name before after old new w
+    → Completed old new (after_source old.limits s (progress_of old)) w × (new.over ≡ None)
 done_goes old new name before after w s t h =
     let k = t h.0 false h.1 (λ e. h.2) in
     let same : s ≡ Opened name h.0 = k.2 ∙ ap (λ (z : List ℕ). Opened name (h.0 ++ z)) (k.1 refl) ∙ ap (Opened name) (append-nil h.0) in
     (subst (λ (s : Source). Completed old new (after_source old.limits s (progress_of old)) w) (sym same) h.3, h.4)
 
-ended_goes : (old new : SessionState) (name : List ℕ) (before after : Option Script) (w : Contents) (s : Source) (cause : Cause) → Suits name before after s → FileEnded name before after old new w cause → Completed old new (after_source old.limits s (progress_of old)) w × (new.over ≡ Some cause)
-ended_goes old new name before after w s cause t h = (so_of name before after s _ (λ s. Completed old new (after_source old.limits s (progress_of old)) w) t h.0, h.1)
+ended_goes : (old new : SessionState) (name : List ℕ) (before after : Option Script) (w : Contents) (s : Source)
+    (cause : Cause) → Suits name before after s → FileEnded name before after old new w cause
+    → Completed old new (after_source old.limits s (progress_of old)) w × (new.over ≡ Some cause)
+ended_goes old new name before after w s cause t h =
+    (so_of name before after s _ (λ s. Completed old new (after_source old.limits s (progress_of old)) w) t h.0, h.1)
 
-broke_so : (old new : SessionState) (name bytes : List ℕ) (w : Contents) (cause : Cause) → Interrupted old new cause → Broken (file old.limits (progress_of old).so_far name bytes) w → BrokeOff new (after_source old.limits (Opened name bytes) (progress_of old)) w cause
+broke_so : (old new : SessionState) (name bytes : List ℕ) (w : Contents) (cause : Cause) → Interrupted old new cause
+    → Broken (file old.limits (progress_of old).so_far name bytes) w
+    → BrokeOff new (after_source old.limits (Opened name bytes) (progress_of old)) w cause
 broke_so old new name bytes w cause f h = record {
   over = f.over;
   output = subst (λ (r : RunSoFar). HasBegun w.out_old w.out_new r.output) (sym (source_is old name bytes f.live)) h.output;
   messages = subst (λ (r : RunSoFar). HasBegun w.messages_old w.messages_new r.messages) (sym (source_is old name bytes f.live)) h.messages;
 }
 
-broke_goes : (old new : SessionState) (name : List ℕ) (before after : Option Script) (w : Contents) (s : Source) (cause : Cause) → Suits name before after s → FileBroke name before after old new w cause → BrokeOff new (after_source old.limits s (progress_of old)) w cause
+broke_goes : (old new : SessionState) (name : List ℕ) (before after : Option Script) (w : Contents) (s : Source)
+    (cause : Cause) → Suits name before after s → FileBroke name before after old new w cause
+    → BrokeOff new (after_source old.limits s (progress_of old)) w cause
 broke_goes old new name before after w s cause t h =
     let r = h.0 in
     so_of name before after s (λ x. Unit) (λ s. BrokeOff new (after_source old.limits s (progress_of old)) w cause) t
-    (record { x = r.x; may_follow = r.may_follow; given = r.given; at_end = r.at_end; asked = tt; so = λ z e. broke_so old new name (r.x ++ z) w cause h.1 (r.so z e) })
+    (record {
+      x = r.x;
+      may_follow = r.may_follow;
+      given = r.given;
+      at_end = r.at_end;
+      asked = tt;
+      so = λ z e. broke_so old new name (r.x ++ z) w cause h.1 (r.so z e);
+    })
 
 -- ---- what a prefix of a file settles is a prefix of what the file gives
 
@@ -101,12 +122,14 @@ made_in_end : (o : Outcome Expansion Ended) → so_far_in o ≡ (ended_of o).so_
 made_in_end (Halted d) = refl
 made_in_end (Closed s) = refl
 
-settled_by : (z : List ℕ) (o v : Outcome Expansion Ended) → Begins z false o v → (ended_of o).reason ≡ NeedsInput → Extends (ended_of o).so_far (ended_of v).so_far
+settled_by : (z : List ℕ) (o v : Outcome Expansion Ended) → Begins z false o v → (ended_of o).reason ≡ NeedsInput
+    → Extends (ended_of o).so_far (ended_of v).so_far
 settled_by z (Halted d) v (inl h) e = subst (Extends d.so_far) (made_in_end v) h.1
 settled_by z (Halted d) v (inr h) e = subst (λ (u : Outcome Expansion Ended). Extends d.so_far (ended_of u).so_far) (sym h.0) (extends_same d.so_far)
 settled_by z (Closed s) v h e = cc
 
-settled_file : (old : SessionState) (name x z : List ℕ) → (settled_part old name x).reason ≡ NeedsInput → Extends (settled_part old name x).so_far (file old.limits (progress_of old).so_far name (x ++ z)).so_far
+settled_file : (old : SessionState) (name x z : List ℕ) → (settled_part old name x).reason ≡ NeedsInput
+    → Extends (settled_part old name x).so_far (file old.limits (progress_of old).so_far name (x ++ z)).so_far
 settled_file old name x z e =
     let s : Expansion = expansion_of old.limits (progress_of old).so_far (file_pending name x true) in
     settled_by z (expand s) (expand (longer_level z false s)) (law z false s refl) e
@@ -114,7 +137,9 @@ settled_file old name x z e =
 fell_begun : (o n : Option (List ℕ)) (a b more : List ℕ) → n ≡ with_bytes o a → b ≡ a ++ more → HasBegun o n b
 fell_begun o n a b more e f = (more, record { front = a; parts = f; holds = e })
 
-fell_goes : (old new : SessionState) (name : List ℕ) (before after : Option Script) (w : Contents) (s : Source) → Suits name before after s → FileFell name before after old new w → BrokeOff new (after_source old.limits s (progress_of old)) w causes.Read
+fell_goes : (old new : SessionState) (name : List ℕ) (before after : Option Script) (w : Contents) (s : Source)
+    → Suits name before after s → FileFell name before after old new w
+    → BrokeOff new (after_source old.limits s (progress_of old)) w causes.Read
 fell_goes old new name before after w s t h =
     so_of name before after s (λ x. Unit) (λ s. BrokeOff new (after_source old.limits s (progress_of old)) w causes.Read) t
     (record {
@@ -134,7 +159,9 @@ fell_goes old new name before after w s t h =
     not_so : true ≡ false → ⊥
     not_so e = cc
 
-opened_goes : (old new : SessionState) (name : List ℕ) (before after : Option Script) (w : Contents) (r : Result Unit Stop) (s : Source) → IsOpen old → Suits name before after s → FileGives name before after old new w r → GoesTo (after_source old.limits s (progress_of old)) old new w r
+opened_goes : (old new : SessionState) (name : List ℕ) (before after : Option Script) (w : Contents)
+    (r : Result Unit Stop) (s : Source) → IsOpen old → Suits name before after s
+    → FileGives name before after old new w r → GoesTo (after_source old.limits s (progress_of old)) old new w r
 opened_goes old new name before after w (Ok done) s l t h = done_goes old new name before after w s t h
 opened_goes old new name before after w (Err stops.Finished) s l t h = absurd ((h.0).closed l)
 opened_goes old new name before after w (Err (stops.Ended causes.Read)) s l t h = fell_goes old new name before after w s t h
@@ -155,14 +182,20 @@ pub opened_described : {R : Type 0} (script : R → Option Script) (old new : Se
     → DescribesSource script first after s → FileGives name (script before) (script later) old new w r
     → GoesTo (after_source old.limits s (progress_of old)) old new w r
 opened_described script old new name before later first after w r s f b l t h =
-    let k : DescribesSource script (sources.Opened name before) (sources.Opened name later) s = subst (λ x. DescribesSource script x (sources.Opened name later) s) f (subst (λ x. DescribesSource script first x s) b t) in
+    let k : DescribesSource script (sources.Opened name before) (sources.Opened name later) s =
+    subst (λ x. DescribesSource script x (sources.Opened name later) s) f
+    (subst (λ x. DescribesSource script first x s) b t) in
     opened_goes old new name (script before) (script later) w r s l (described_suit script name before (sources.Opened name later) s k) h
 
 -- an open session reports a source that wasn't opened
-missing_is : (old : SessionState) (name : List ℕ) → IsOpen old → (after_source old.limits (Unopened name) (progress_of old)).so_far ≡ with_message (cannot_open name) (progress_of old).so_far
+missing_is : (old : SessionState) (name : List ℕ) → IsOpen old
+    → (after_source old.limits (Unopened name) (progress_of old)).so_far
+    ≡ with_message (cannot_open name) (progress_of old).so_far
 missing_is old name l = ap (λ (o : Option Cause). (after_source old.limits (Unopened name) (record (progress_of old) { over = how_over o })).so_far) l.over
 
-pub missing_goes : (old new : SessionState) (name : List ℕ) (w : Contents) (r : Result Unit Stop) → IsOpen old → w.out_new ≡ w.out_old → MissingGives name old new w.messages_old w.messages_new r → GoesTo (after_source old.limits (Unopened name) (progress_of old)) old new w r
+pub missing_goes : (old new : SessionState) (name : List ℕ) (w : Contents) (r : Result Unit Stop) → IsOpen old
+    → w.out_new ≡ w.out_old → MissingGives name old new w.messages_old w.messages_new r
+    → GoesTo (after_source old.limits (Unopened name) (progress_of old)) old new w r
 missing_goes old new name w (Ok done) l o h = (
   record {
     live = l;
@@ -192,12 +225,15 @@ missing_goes old new name w (Err (stops.Ended causes.NestingLimit)) l o h = absu
 missing_goes old new name w (Err (stops.Ended (causes.Frozen f))) l o h = absurd h
 
 -- a source that wasn't read, for want of memory
-pub unread_goes : (old new : SessionState) (w : Contents) (p : Progress) (r : Result Unit Stop) → r ≡ Err (stops.Ended causes.OutOfMemory) → new.over ≡ Some causes.OutOfMemory → w.out_new ≡ w.out_old → w.messages_new ≡ w.messages_old → GoesTo p old new w r
+pub unread_goes : (old new : SessionState) (w : Contents) (p : Progress) (r : Result Unit Stop)
+    → r ≡ Err (stops.Ended causes.OutOfMemory) → new.over ≡ Some causes.OutOfMemory → w.out_new ≡ w.out_old
+    → w.messages_new ≡ w.messages_old → GoesTo p old new w r
 unread_goes old new w p r i v o m =
     subst (λ (x : Result Unit Stop). GoesTo p old new w x) (sym i)
     (record { over = v; output = silent_begun w.out_old w.out_new _ o; messages = silent_begun w.messages_old w.messages_new _ m })
 
-pub unopened_is : {R : Type 0} (script : R → Option Script) (name : List ℕ) (after : RunSource R) (s : Source) → DescribesSource script (sources.Unopened name) after s → Unopened name ≡ s
+pub unopened_is : {R : Type 0} (script : R → Option Script) (name : List ℕ) (after : RunSource R) (s : Source)
+    → DescribesSource script (sources.Unopened name) after s → Unopened name ≡ s
 unopened_is script name after s (inl t) = let e : Unopened name ≡ s = cc in e
 unopened_is script name after s (inr m) = sym m
 
@@ -208,7 +244,8 @@ pub unopened_described : {R : Type 0} (script : R → Option Script) (old new : 
     → GoesTo (after_source old.limits s (progress_of old)) old new w r
 unopened_described script old new name first after w r s f l t o h =
     let k : DescribesSource script (sources.Unopened name) after s = subst (λ x. DescribesSource script x after s) f t in
-    subst (λ (s : Source). GoesTo (after_source old.limits s (progress_of old)) old new w r) (unopened_is script name after s k) (missing_goes old new name w r l o h)
+    subst (λ (s : Source). GoesTo (after_source old.limits s (progress_of old)) old new w r)
+    (unopened_is script name after s k) (missing_goes old new name w r l o h)
 
 -- nothing was taken
 pub none_taken : (b : Option Script) → b ≡ after_bytes [] b

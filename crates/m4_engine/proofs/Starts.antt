@@ -57,13 +57,18 @@ saved_same (s ∷ ss) x p = there p.over
     there None = refl
     there (Some h) = refl
 
-result_by_after : (over : Option EndReason) (freezes : Bool) (saved : List (List ℕ)) (x : List ℕ) (r : RunSoFar) (any_missing : Bool) → result_by over freezes saved (record r { output = x ++ r.output; messages = [] ++ r.messages }) any_missing ≡ issuing x (result_by over freezes saved r any_missing)
+result_by_after : (over : Option EndReason) (freezes : Bool) (saved : List (List ℕ)) (x : List ℕ) (r : RunSoFar)
+    (any_missing : Bool) → result_by over freezes saved
+    (record r { output = x ++ r.output; messages = [] ++ r.messages }) any_missing
+    ≡ issuing x (result_by over freezes saved r any_missing)
 result_by_after None freezes saved x r any_missing =
     ap (λ (y : List ℕ). let k : RunResult = record (result_by None freezes saved r any_missing) { output = y } in k) (closed_after freezes x [] r)
 result_by_after (Some h) freezes saved x r any_missing = refl
 
 -- a run from a start is the run from its state, after what is issued
-pub run_after : (o : Options) (s : State) (x : List ℕ) (ss : List Source) → run_from o (From s x) ss ≡ issuing x (result_after o.freeze (limits_of o) ss (after_sources (limits_of o) ss (progress_of (session_from o s))))
+pub run_after : (o : Options) (s : State) (x : List ℕ) (ss : List Source)
+    → run_from o (From s x) ss ≡ issuing x
+    (result_after o.freeze (limits_of o) ss (after_sources (limits_of o) ss (progress_of (session_from o s))))
 run_after o s x ss =
     let limits : Limits = limits_of o in
     let q : Progress = progress_of (session_from o s) in
@@ -197,7 +202,9 @@ begun_last o start ss s st c d z z' out0 out1 out2 reported reported' frozen fro
     let v : Three (Option (List ℕ)) = record { two = writers out1 out2 reported reported'; frozen_old = frozen; frozen_new = frozen' } in
     let w : Three (Option (List ℕ)) = record { two = writers out0 out2 reported reported'; frozen_old = frozen; frozen_new = frozen' } in
     let r : RunResult = result_after o.freeze (limits_of o) ss (after_sources (limits_of o) ss (progress_of (session_from o k.0))) in
-    let g : FrozenLast c r z z' v = subst (λ (y : SessionState). FrozenLast c (result_after o.freeze y.limits ss (after_sources y.limits ss (progress_of y))) z z' v) k.3 h in
+    let g : FrozenLast c r z z' v = subst
+    (λ (y : SessionState). FrozenLast c
+    (result_after o.freeze y.limits ss (after_sources y.limits ss (progress_of y))) z z' v) k.3 h in
     let n : run_from o start ss ≡ issuing k.1 r = ap (λ (y : Start). run_from o y ss) k.2 ∙ run_after o k.0 k.1 ss in
     subst (λ (y : Cause). FrozenLast y (run_from o start ss) z z' w) (sym j)
     (subst (λ (y : RunResult). FrozenLast c y z z' w) (sym n)
@@ -212,7 +219,8 @@ begun_state P o start ss s st out0 out1 i b h =
     let k = subst (BeginGives start o out0 out1) i b in
     let limits : Limits = limits_of o in
     let p : Progress = after_sources limits ss (progress_of (session_from o k.0)) in
-    let g : P ((after_wraps limits p).so_far).state = subst (λ (y : SessionState). P ((after_wraps y.limits (after_sources y.limits ss (progress_of y))).so_far).state) k.3 h in
+    let g : P ((after_wraps limits p).so_far).state =
+    subst (λ (y : SessionState). P ((after_wraps y.limits (after_sources y.limits ss (progress_of y))).so_far).state) k.3 h in
     let e : after_wraps limits (after_sources limits ss (begun start)) ≡ after k.1 [] (after_wraps limits p) =
     ap (λ (y : Start). after_wraps limits (after_sources limits ss (begun y))) k.2
     ∙ ap (λ (y : Progress). after_wraps limits (after_sources limits ss y)) (begun_is o k.0 k.1)
@@ -225,7 +233,8 @@ abbrev pub status_after : Stop → ℕ
 status_after stops.Finished = 0
 status_after (stops.Ended cause) = status_of (Ends cause) false
 
-pub never_ends : (e : Stop) (n : ℕ) (d : Ending) → d ≡ ending_by 0 (Err e) → n ≡ status_of (Ends d.cause) false → record d { status = n } ≡ ending_by (status_after e) (Err e)
+pub never_ends : (e : Stop) (n : ℕ) (d : Ending) → d ≡ ending_by 0 (Err e) → n ≡ status_of (Ends d.cause) false
+    → record d { status = n } ≡ ending_by (status_after e) (Err e)
 never_ends e n d i j =
     ap (λ (k : ℕ). record d { status = k }) j
     ∙ ap (λ (y : Ending). record y { status = status_of (Ends y.cause) false }) i ∙ same e
@@ -251,7 +260,9 @@ faulty_wrote : (o : Options) (start : Start) (fault : FrozenFault) (ss : List So
     (ending_by (status_after (stops.Ended (causes.Frozen fault))) (Err (stops.Ended (causes.Frozen fault))))
     (writers out out' reported reported)
 faulty_wrote o start fault ss out out' reported i e =
-    subst (λ (y : RunResult). WroteAll y (ending_by (status_after (stops.Ended (causes.Frozen fault))) (Err (stops.Ended (causes.Frozen fault)))) (writers out out' reported reported))
+    subst (λ (y : RunResult). WroteAll y
+    (ending_by (status_after (stops.Ended (causes.Frozen fault))) (Err (stops.Ended (causes.Frozen fault))))
+    (writers out out' reported reported))
     (sym (ap (λ (y : Start). run_from o y ss) e ∙ faulty_is o fault ss)) (record {
       reason = refl;
       status = refl;
@@ -261,14 +272,17 @@ faulty_wrote o start fault ss out out' reported i e =
     })
 
 -- a run that wrote nothing, or a beginning of what its start issues
-fell_silent : (r : RunResult) (d : Ending) (out out' reported : Option (List ℕ)) → d.wrapped ≡ false → out' ≡ out → WrotePrefix r d (writers out out' reported reported)
+fell_silent : (r : RunResult) (d : Ending) (out out' reported : Option (List ℕ)) → d.wrapped ≡ false → out' ≡ out
+    → WrotePrefix r d (writers out out' reported reported)
 fell_silent r d out out' reported w i = record {
   wrapped = w;
   output = subst (λ y. HasBegun out y r.output) (sym i) (nothing_begun out r.output);
   messages = nothing_begun reported r.messages;
 }
 
-fell_issuing : (o : Options) (start : Start) (ss : List Source) (d : Ending) (out out' reported : Option (List ℕ)) (s : State) (x : List ℕ) → d.wrapped ≡ false → start ≡ From s x → HasBegun out out' x → WrotePrefix (run_from o start ss) d (writers out out' reported reported)
+fell_issuing : (o : Options) (start : Start) (ss : List Source) (d : Ending) (out out' reported : Option (List ℕ))
+    (s : State) (x : List ℕ) → d.wrapped ≡ false → start ≡ From s x → HasBegun out out' x
+    → WrotePrefix (run_from o start ss) d (writers out out' reported reported)
 fell_issuing o start ss d out out' reported s x w e h =
     let r : RunResult = result_after o.freeze (limits_of o) ss (after_sources (limits_of o) ss (progress_of (session_from o s))) in
     subst (λ (y : RunResult). WrotePrefix y d (writers out out' reported reported)) (sym (ap (λ (y : Start). run_from o y ss) e ∙ run_after o s x ss)) (record {
@@ -309,8 +323,10 @@ never_by o start ss (stops.Ended causes.EndInArguments) out out' reported frozen
 never_by o start ss (stops.Ended causes.ExpansionLimit) out out' reported frozen h = absurd h
 never_by o start ss (stops.Ended causes.NestingLimit) out out' reported frozen h = absurd h
 never_by o start ss (stops.Ended causes.Read) out out' reported frozen h = absurd h
-never_by o start ss (stops.Ended (causes.Frozen fault)) out out' reported frozen h = record { gives = refused_gives fault.kind o start fault ss out out' reported refl h.0 h.1; frozen = refl }
-never_by o start ss (stops.Ended causes.Write) out out' reported frozen h = record { gives = fell_issuing o start ss _ out out' reported h.0 h.1 refl h.2 h.3; frozen = inl refl }
+never_by o start ss (stops.Ended (causes.Frozen fault)) out out' reported frozen h =
+    record { gives = refused_gives fault.kind o start fault ss out out' reported refl h.0 h.1; frozen = refl }
+never_by o start ss (stops.Ended causes.Write) out out' reported frozen h =
+    record { gives = fell_issuing o start ss _ out out' reported h.0 h.1 refl h.2 h.3; frozen = inl refl }
 never_by o start ss (stops.Ended causes.OutOfMemory) out out' reported frozen h = record { gives = fell_silent _ _ out out' reported refl h; frozen = refl }
 
 pub never_gives : (o : Options) (start : Start) (ss : List Source) (st : Result SessionState Stop) (e : Stop) (n : ℕ)
@@ -352,13 +368,15 @@ never_is o st e n d i m j h =
       k.3,
     )
 
-pub never_status : (o : Options) (st : Result SessionState Stop) (e : Stop) (n : ℕ) (d : Ending) (unopened : Bool) → st ≡ Err e → n ≡ status_after e → d ≡ ending_by n (Err e) → IsBegun o st → StatusIs unopened d
+pub never_status : (o : Options) (st : Result SessionState Stop) (e : Stop) (n : ℕ) (d : Ending) (unopened : Bool)
+    → st ≡ Err e → n ≡ status_after e → d ≡ ending_by n (Err e) → IsBegun o st → StatusIs unopened d
 never_status o st e n d unopened i m j h =
     let k = never_is o st e n d i m j h in
     subst (StatusIs unopened) (sym k.2) (false, refl, λ x. absurd (k.3 x))
 
 -- no source was read
-sound_by : {R : Type 0} (script : R → Option Script) (failures : R → ℕ) (xs ys : List (RunSource R)) (cause : Cause) → cause ≢ causes.Read → AllPairs (is_sound failures) xs ys → ReadersFailBy script failures cause xs ys
+sound_by : {R : Type 0} (script : R → Option Script) (failures : R → ℕ) (xs ys : List (RunSource R)) (cause : Cause)
+    → cause ≢ causes.Read → AllPairs (is_sound failures) xs ys → ReadersFailBy script failures cause xs ys
 sound_by script failures xs ys causes.Read n a = absurd (n refl)
 sound_by script failures xs ys cause n a = a
 
@@ -375,13 +393,16 @@ frozen_by : (cause : Cause) (old new : ℕ) → ReloadFails {A = SessionState} (
 frozen_by (causes.Frozen fault) old new h = h
 frozen_by cause old new h = h
 
-never_frozen_by : {R : Type 0} (failures : R → ℕ) (xs ys : Option R) (cause : Cause) → BeginFails {A = SessionState} failures (Err (stops.Ended cause)) xs ys → FrozenFailsBy failures cause xs ys
+never_frozen_by : {R : Type 0} (failures : R → ℕ) (xs ys : Option R) (cause : Cause)
+    → BeginFails {A = SessionState} failures (Err (stops.Ended cause)) xs ys → FrozenFailsBy failures cause xs ys
 never_frozen_by failures None None cause h = h
 never_frozen_by failures None (Some y) cause h = absurd h
 never_frozen_by failures (Some x) None cause h = absurd h
 never_frozen_by failures (Some x) (Some y) cause h = frozen_by cause (failures x) (failures y) h
 
-pub never_frozen : {R : Type 0} (failures : R → ℕ) (xs ys : Option R) (o : Options) (st : Result SessionState Stop) (e : Stop) (n : ℕ) (d : Ending) → st ≡ Err e → n ≡ status_after e → d ≡ ending_by n (Err e) → IsBegun o st → BeginFails failures st xs ys → FrozenFailsBy failures d.cause xs ys
+pub never_frozen : {R : Type 0} (failures : R → ℕ) (xs ys : Option R) (o : Options) (st : Result SessionState Stop)
+    (e : Stop) (n : ℕ) (d : Ending) → st ≡ Err e → n ≡ status_after e → d ≡ ending_by n (Err e) → IsBegun o st
+    → BeginFails failures st xs ys → FrozenFailsBy failures d.cause xs ys
 never_frozen failures xs ys o st e n d i m j h a =
     let k = never_is o st e n d i m j h in
     subst (λ (y : Ending). FrozenFailsBy failures y.cause xs ys) (sym k.2)
@@ -450,7 +471,8 @@ left_unrefused new n (Err (stops.Ended causes.Read)) fault l c = cc
 left_unrefused new n (Err (stops.Ended causes.Write)) fault l c = cc
 left_unrefused new n (Err (stops.Ended causes.OutOfMemory)) fault l c = cc
 
-pub not_refused : (new : SessionState) (n : ℕ) (r : Result Bool Stop) (d : Ending) (fault : FrozenFault) → d ≡ ending_by n r → IsLeft new r → d.cause ≡ causes.Frozen fault → ⊥
+pub not_refused : (new : SessionState) (n : ℕ) (r : Result Bool Stop) (d : Ending) (fault : FrozenFault)
+    → d ≡ ending_by n r → IsLeft new r → d.cause ≡ causes.Frozen fault → ⊥
 not_refused new n r d fault j l c = left_unrefused new n r fault l (ap (λ (y : Ending). y.cause) (sym j) ∙ c)
 
 frozen_same : (cause : Cause) (old new : ℕ) → ((fault : FrozenFault) → cause ≡ causes.Frozen fault → ⊥) → new ≡ old → frozen_fails cause old new
@@ -461,7 +483,9 @@ unrefused_so : (cause : Cause) → ((fault : FrozenFault) → cause ≡ causes.F
 unrefused_so (causes.Frozen fault) n = n fault refl
 unrefused_so cause n = tt
 
-begun_frozen_by : {R : Type 0} (failures : R → ℕ) (xs ys : Option R) (s : SessionState) (cause : Cause) → ((fault : FrozenFault) → cause ≡ causes.Frozen fault → ⊥) → BeginFails failures (Ok s) xs ys → FrozenFailsBy failures cause xs ys
+begun_frozen_by : {R : Type 0} (failures : R → ℕ) (xs ys : Option R) (s : SessionState) (cause : Cause)
+    → ((fault : FrozenFault) → cause ≡ causes.Frozen fault → ⊥) → BeginFails failures (Ok s) xs ys
+    → FrozenFailsBy failures cause xs ys
 begun_frozen_by failures None None s cause n h = unrefused_so cause n
 begun_frozen_by failures None (Some y) s cause n h = absurd h
 begun_frozen_by failures (Some x) None s cause n h = absurd h
@@ -471,7 +495,8 @@ pub begun_frozen : {R : Type 0} (failures : R → ℕ) (xs ys : Option R) (s : S
     (st : Result SessionState Stop) (new : SessionState) (n : ℕ) (r : Result Bool Stop) (d : Ending) → st ≡ Ok s
     → d ≡ ending_by n r → IsLeft new r → BeginFails failures st xs ys → FrozenFailsBy failures d.cause xs ys
 begun_frozen failures xs ys s st new n r d i j l h =
-    begun_frozen_by failures xs ys s d.cause (λ fault c. not_refused new n r d fault j l c) (subst (λ (y : Result SessionState Stop). BeginFails failures y xs ys) i h)
+    begun_frozen_by failures xs ys s d.cause (λ fault c. not_refused new n r d fault j l c)
+    (subst (λ (y : Result SessionState Stop). BeginFails failures y xs ys) i h)
 
 -- by the answer of the rest of the run
 by_answer : (n : ℕ) (r : Result Bool Stop) (none one : Type 0) → ByAnswer r none one → ByCause (ending_by n r).cause none one
@@ -479,7 +504,9 @@ by_answer n (Ok wrapped) none one h = h
 by_answer n (Err stops.Finished) none one h = h
 by_answer n (Err (stops.Ended cause)) none one h = h
 
-pub spared_answer : (cause : Cause) (two two' : Contents) (frozen frozen' : Option (List ℕ)) → Spares cause (record { two = two; frozen_old = frozen; frozen_new = frozen' }) → Spares cause (record { two = two'; frozen_old = frozen; frozen_new = frozen' })
+pub spared_answer : (cause : Cause) (two two' : Contents) (frozen frozen' : Option (List ℕ))
+    → Spares cause (record { two = two; frozen_old = frozen; frozen_new = frozen' })
+    → Spares cause (record { two = two'; frozen_old = frozen; frozen_new = frozen' })
 spared_answer causes.Done two two' frozen frozen' h = tt
 spared_answer causes.Write two two' frozen frozen' h = tt
 spared_answer (causes.Exited n) two two' frozen frozen' h = h
@@ -492,7 +519,9 @@ spared_answer (causes.Frozen f) two two' frozen frozen' h = h
 spared_answer causes.Read two two' frozen frozen' h = h
 spared_answer causes.OutOfMemory two two' frozen frozen' h = h
 
-spared_by : (n : ℕ) (r : Result Bool Stop) (two two' : Contents) (frozen frozen' : Option (List ℕ)) → SparesBy r (record { two = two; frozen_old = frozen; frozen_new = frozen' }) → Spares (ending_by n r).cause (record { two = two'; frozen_old = frozen; frozen_new = frozen' })
+spared_by : (n : ℕ) (r : Result Bool Stop) (two two' : Contents) (frozen frozen' : Option (List ℕ))
+    → SparesBy r (record { two = two; frozen_old = frozen; frozen_new = frozen' })
+    → Spares (ending_by n r).cause (record { two = two'; frozen_old = frozen; frozen_new = frozen' })
 spared_by n (Ok wrapped) two two' frozen frozen' h = tt
 spared_by n (Err stops.Finished) two two' frozen frozen' h = tt
 spared_by n (Err (stops.Ended cause)) two two' frozen frozen' h = spared_answer cause two two' frozen frozen' h
@@ -501,7 +530,9 @@ pub ended_spared : (n : ℕ) (r : Result Bool Stop) (d : Ending) (two two' : Con
     (frozen frozen' : Option (List ℕ)) → d ≡ ending_by n r
     → SparesBy r (record { two = two; frozen_old = frozen; frozen_new = frozen' })
     → Spares d.cause (record { two = two'; frozen_old = frozen; frozen_new = frozen' })
-ended_spared n r d two two' frozen frozen' j h = subst (λ (y : Ending). Spares y.cause (record { two = two'; frozen_old = frozen; frozen_new = frozen' })) (sym j) (spared_by n r two two' frozen frozen' h)
+ended_spared n r d two two' frozen frozen' j h =
+    subst (λ (y : Ending). Spares y.cause (record { two = two'; frozen_old = frozen; frozen_new = frozen' })) (sym j)
+    (spared_by n r two two' frozen frozen' h)
 
 done_answer : (new : SessionState) (n : ℕ) (r : Result Bool Stop) → IsLeft new r → (ending_by n r).cause ≡ causes.Done → (b : Bool) × (r ≡ Ok b)
 done_answer new n (Ok b) l c = (b, refl)
@@ -518,20 +549,23 @@ done_answer new n (Err (stops.Ended causes.Read)) l c = cc
 done_answer new n (Err (stops.Ended causes.Write)) l c = cc
 done_answer new n (Err (stops.Ended causes.OutOfMemory)) l c = cc
 
-pub ended_done : (P : Type 0) (new : SessionState) (n : ℕ) (r : Result Bool Stop) (d : Ending) → d ≡ ending_by n r → IsLeft new r → d.cause ≡ causes.Done → OnOk r P → P
+pub ended_done : (P : Type 0) (new : SessionState) (n : ℕ) (r : Result Bool Stop) (d : Ending) → d ≡ ending_by n r
+    → IsLeft new r → d.cause ≡ causes.Done → OnOk r P → P
 ended_done P new n r d j l c h =
     let k = done_answer new n r l (ap (λ (y : Ending). y.cause) (sym j) ∙ c) in
     subst (λ (y : Result Bool Stop). OnOk y P) k.1 h
 
 -- what was loaded is what the frozen file gives
-pub reloaded_is : (o : Options) (file : Option Script) (loaded : Loaded) → IfSome file (λ script. (script.fails ≡ false) × Loads script.bytes loaded) → AreReloaded o file loaded.state loaded.issued
+pub reloaded_is : (o : Options) (file : Option Script) (loaded : Loaded)
+    → IfSome file (λ script. (script.fails ≡ false) × Loads script.bytes loaded) → AreReloaded o file loaded.state loaded.issued
 reloaded_is o None loaded h = h
 reloaded_is o (Some script) loaded h =
     let k : Loads script.bytes loaded = h.1 in
     inl (k.directives, h.0, k.spelled, ap (λ (l : Loaded). From l.state l.issued) k.denoted)
 
 -- what a reloaded run begins with
-reload_by : (o : Options) (script : Script) (out out' : Option (List ℕ)) (st : Result SessionState Stop) → ReloadGives o (Some script) out out' st → BeginGives (start_of o.prefix (Some script)) o out out' st
+reload_by : (o : Options) (script : Script) (out out' : Option (List ℕ)) (st : Result SessionState Stop)
+    → ReloadGives o (Some script) out out' st → BeginGives (start_of o.prefix (Some script)) o out out' st
 reload_by o script out out' (Ok new) h = (h.0, h.1, sym (is_start o.prefix (Some script) (From h.0 h.1) h.2), h.3, h.4)
 reload_by o script out out' (Err stops.Finished) h = absurd h
 reload_by o script out out' (Err (stops.Ended causes.Done)) h = absurd h
@@ -556,7 +590,8 @@ reload_begins script reader frozen o file out out' st i t h =
     (reload_by o k.0 out out' st (subst (λ (y : Option Script). ReloadGives o y out out' st) k.1 h))
 
 -- what a fresh run begins with
-fresh_by : (o : Options) (out : Option (List ℕ)) (st : Result SessionState Stop) → IfOk st (λ s. s ≡ fresh_session o) → IfErr st (λ e. e ≡ stops.Ended causes.OutOfMemory) → BeginGives (start_of o.prefix None) o out out st
+fresh_by : (o : Options) (out : Option (List ℕ)) (st : Result SessionState Stop) → IfOk st (λ s. s ≡ fresh_session o)
+    → IfErr st (λ e. e ≡ stops.Ended causes.OutOfMemory) → BeginGives (start_of o.prefix None) o out out st
 fresh_by o out (Ok s) f e = (fresh o.prefix, [], refl, f, with_bytes-nil out)
 fresh_by o out (Err x) f e = subst (λ (y : Stop). BeginGives (start_of o.prefix None) o out out (Err y)) (sym e) refl
 
@@ -577,7 +612,8 @@ pub record Began {R : Type 0} (script : R → Option Script) (failures : R → �
   pub read : BeginFails failures st xs ys
   pub write : MessageWriteFails st old new
 
-reload_is_begun : (o : Options) (file : Option Script) (out out' : Option (List ℕ)) (st : Result SessionState Stop) → ReloadGives o file out out' st → IsBegun o st
+reload_is_begun : (o : Options) (file : Option Script) (out out' : Option (List ℕ)) (st : Result SessionState Stop)
+    → ReloadGives o file out out' st → IsBegun o st
 reload_is_begun o file out out' (Ok new) h = (h.0, h.3)
 reload_is_begun o file out out' (Err stops.Finished) h = absurd h
 reload_is_begun o file out out' (Err (stops.Ended causes.Done)) h = absurd h
@@ -605,7 +641,9 @@ reload_began script failures o xs ys x y out out' old new st i j h r w = record 
 }
 
 -- an allocation failed, or nothing did
-fresh_is : (P : Result SessionState Stop → Type 0) (o : Options) (st : Result SessionState Stop) → IfOk st (λ s. s ≡ fresh_session o) → IfErr st (λ e. e ≡ stops.Ended causes.OutOfMemory) → P (Ok (fresh_session o)) → P (Err (stops.Ended causes.OutOfMemory)) → P st
+fresh_is : (P : Result SessionState Stop → Type 0) (o : Options) (st : Result SessionState Stop)
+    → IfOk st (λ s. s ≡ fresh_session o) → IfErr st (λ e. e ≡ stops.Ended causes.OutOfMemory) → P (Ok (fresh_session o))
+    → P (Err (stops.Ended causes.OutOfMemory)) → P st
 fresh_is P o (Ok s) f e p q = subst (λ (x : SessionState). P (Ok x)) (sym f) p
 fresh_is P o (Err x) f e p q = subst (λ (y : Stop). P (Err y)) (sym e) q
 
@@ -617,7 +655,9 @@ fresh_began script failures o xs ys out old st i j f e = record {
   gives = λ file t. fresh_begins script xs o file out st i t f e;
   begun = fresh_is (IsBegun o) o st f e (fresh o.prefix, refl) tt;
   refused = λ fault k. refl;
-  read = subst (λ (v : Option _). BeginFails failures st v ys) (sym i) (subst (λ (v : Option _). BeginFails failures st None v) (sym j) (fresh_is (λ r. BeginFails failures r None None) o st f e tt tt));
+  read = subst (λ (v : Option _). BeginFails failures st v ys) (sym i)
+      (subst (λ (v : Option _). BeginFails failures st None v) (sym j)
+      (fresh_is (λ r. BeginFails failures r None None) o st f e tt tt));
   write = fresh_is (λ r. MessageWriteFails r old old) o st f e refl refl;
 }
 
@@ -647,7 +687,9 @@ end_left freezes old new w (stops.Ended causes.Read) l h = absurd h
 end_left freezes old new w (stops.Ended causes.Write) l h = h.over
 end_left freezes old new w (stops.Ended causes.OutOfMemory) l h = h.over
 
-pub close_left : (freezes : Bool) (old new : SessionState) (w : Three (Option (List ℕ))) (e : Stop) (q : Result Unit Stop) (r : Result Bool Stop) → q ≡ Err e → r ≡ Err e → IsOpen old → CloseGives freezes old new w q → IsLeft new r
+pub close_left : (freezes : Bool) (old new : SessionState) (w : Three (Option (List ℕ))) (e : Stop)
+    (q : Result Unit Stop) (r : Result Bool Stop) → q ≡ Err e → r ≡ Err e → IsOpen old → CloseGives freezes old new w q
+    → IsLeft new r
 close_left freezes old new w e q r f g l h =
     subst (IsLeft new) (sym g)
     (end_left freezes old new w.two e l (subst (EndGives freezes old new w.two) f (close_ends freezes old new w q h)))

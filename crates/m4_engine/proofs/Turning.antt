@@ -45,7 +45,8 @@ pub unended_moves : (e e1 : Engine) (what w : Unended) (line : ℕ) (at : Place)
 unended_moves e e1 what w line at p before o m h i l f g =
     let j : at ≡ record { file = or_empty before.file; line = line } = place_of_file at before p line i l f in
     ap (λ (x : Unended). step (outer_of e.open_calls) (take_front (Refused x line) (here_of o m e before))) h
-    ∙ failed_at o m e e1 before (record { file = or_empty before.file; line = line }) (unended_text w) (unended_cause w) (outer_of e.open_calls) (g ∙ ap (λ (x : Place). with_engine_message (error x (unended_text w)) e) j)
+    ∙ failed_at o m e e1 before (record { file = or_empty before.file; line = line }) (unended_text w) (unended_cause w)
+    (outer_of e.open_calls) (g ∙ ap (λ (x : Place). with_engine_message (error x (unended_text w)) e) j)
 
 -- a turn that takes a token
 pub turn_taken : (e e1 : Engine) (t : Token) (p q p' : Pending) (r : Result Turned TurnFault)
@@ -55,7 +56,8 @@ pub turn_taken : (e e1 : Engine) (t : Token) (p q p' : Pending) (r : Result Turn
     (λ z more o m. step (outer_of e.open_calls) (take_token t (longer z more q) (here_of o m e (longer z more p)))))
     → IfOk r (λ u. Moves p.may_follow e1 p' u (λ z more o m. moved (configuration o m e (longer z more p))))
 turn_taken e e1 t p q p' r front k =
-    result_by p.may_follow e1 p' r _ _ (λ z more c o m. ap (λ v. step (outer_of e.open_calls) (take_front v (here_of o m e (longer z more p)))) (front z more c)) k
+    result_by p.may_follow e1 p' r _ _ (λ z more c o m.
+    ap (λ v. step (outer_of e.open_calls) (take_front v (here_of o m e (longer z more p)))) (front z more c)) k
 
 -- a token of so many bytes
 pub turn_found : (e e1 : Engine) (t : Token) (n : ℕ) (p q p' : Pending) (r : Result Turned TurnFault)
@@ -65,7 +67,8 @@ pub turn_found : (e e1 : Engine) (t : Token) (n : ℕ) (p q p' : Pending) (r : R
     (λ z more o m. step (outer_of e.open_calls) (take_token t (longer z more q) (here_of o m e (longer z more p)))))
     → IfOk r (λ u. Moves p.may_follow e1 p' u (λ z more o m. moved (configuration o m e (longer z more p))))
 turn_found e e1 t n p q p' r d s g k =
-    turn_taken e e1 t p q p' r (λ z more c. found_longer (e.state).quotes (e.state).comments p t n z more d s c ∙ ap (λ (x : Pending). Taken t (longer z more x)) (sym g)) k
+    turn_taken e e1 t p q p' r (λ z more c. found_longer (e.state).quotes (e.state).comments p t n z more d s c
+    ∙ ap (λ (x : Pending). Taken t (longer z more x)) (sym g)) k
 
 -- a turn that meets what has no end
 pub turn_unended : (e e1 : Engine) (what : Unended) (line : ℕ) (p p1 p' : Pending) (r : Result Turned TurnFault)
@@ -83,7 +86,8 @@ turn_unended e e1 what line p p1 p' (Ok u) d s i g k =
 turn_unended e e1 what line p p1 p' (Err x) d s i g k = tt
 
 -- the bytes in hand don't decide the token
-pub token_undecided : (e : Engine) (i : Held) → (i.pending).definition ≡ None → scan (e.state).quotes (e.state).comments (i.pending).may_follow (text_of i.pending) ≡ NeedsMore → Needs e e i i
+pub token_undecided : (e : Engine) (i : Held) → (i.pending).definition ≡ None
+    → scan (e.state).quotes (e.state).comments (i.pending).may_follow (text_of i.pending) ≡ NeedsMore → Needs e e i i
 token_undecided e i d s = record {
   engine = refl;
   input = refl;
@@ -139,7 +143,11 @@ pub found_steps_at : (e e1 : Engine) (t : Token) (n : ℕ) (i k j : Held) (r : R
     (take_token t (longer z more k.pending) (here_of o m e (longer z more i.pending))))) → {to : Turned → Type 0}
     → Steps r e e1 k j to → Turns r e e1 i j
 found_steps_at e e1 t n i k j r d s g m st =
-    found_steps e e1 t n i k j r d s g (subst (λ (v : Bool). IfOk r (λ u. Moves v e1 j.pending u (λ z more o m. step (outer_of e.open_calls) (take_token t (longer z more k.pending) (here_of o m e (longer z more i.pending)))))) (ap (λ (h : Held). (h.pending).may_follow) g) m) st
+    found_steps e e1 t n i k j r d s g (subst
+    (λ (v : Bool). IfOk r (λ u. Moves v e1 j.pending u
+    (λ z more o m. step (outer_of e.open_calls)
+    (take_token t (longer z more k.pending) (here_of o m e (longer z more i.pending))))))
+    (ap (λ (h : Held). (h.pending).may_follow) g) m) st
 
 -- the input after a token
 after_token : (i : Held) (n : ℕ) → IsReady i → Stays i (record i { pending = consumed n i.pending })
@@ -225,6 +233,7 @@ text_taken e e1 n t i j r d (inr (inl s)) g k = word_turn e e1 t n i j r d s.0 s
 text_taken e e1 n t i j r d (inr (inr s)) g k = string_turn e e1 t (Comment t) n i j (inr refl) r d s g k
 
 -- the bytes in hand don't decide the token, or whether a list follows
-pub undecided_turn : (e : Engine) (i : Held) → IsReady i → (i.pending).definition ≡ None → IsUndecided e.state (i.pending).may_follow (text_of i.pending) → Turns (Ok turns.NeedsMore) e e i i
+pub undecided_turn : (e : Engine) (i : Held) → IsReady i → (i.pending).definition ≡ None
+    → IsUndecided e.state (i.pending).may_follow (text_of i.pending) → Turns (Ok turns.NeedsMore) e e i i
 undecided_turn e i r d (inl s) = needs_turn e i r (token_undecided e i d s)
 undecided_turn e i r d (inr s) = needs_turn e i r (list_undecided e i s.1 (take s.0 (text_of i.pending)) s.0 d s.2 s.3 s.4)

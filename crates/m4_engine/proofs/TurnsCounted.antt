@@ -36,7 +36,8 @@ module _ (S F D : Type 0) (R : S → S → Type 0) where
   AlikeOuts (Halted d) w = (e : D) × (w ≡ Halted e)
   AlikeOuts (Closed u) w = (v : S) × (w ≡ Closed v) × R u v
 
-module _ (S F D : Type 0) (turn : S → Turn S F D) (join : F → S → Outcome S D) (spent : S → D) (size left : S → ℕ) (falls : Falls S F D turn join size left) where
+module _ (S F D : Type 0) (turn : S → Turn S F D) (join : F → S → Outcome S D) (spent : S → D) (size left : S → ℕ)
+    (falls : Falls S F D turn join size left) where
   abbrev turn' : S × ℕ → Turn (S × ℕ) F (D × ℕ)
   turn' s = counted_turn (suc s.1) (turn s.0)
 
@@ -114,10 +115,14 @@ module _ (S F D : Type 0) (turn : S → Turn S F D) (join : F → S → Outcome 
         expansion_is (S × ℕ) F (D × ℕ) turn' join' spent' size' left' falls' t
         ∙ ap (after (S × ℕ) F (D × ℕ) join' whole' whole') (ap (counted_turn (suc t.1)) (ap turn r.0 ∙ h.0))
         ∙ ap (λ (n : ℕ). Halted (d.0, n)) (add_suc t.1 s.1 d.1 k r.1 h.1);
-    close = λ s t u r e. let h = reported s (Close u) e in ((u.0, suc t.1), ap (counted_turn (suc t.1)) (ap turn r.0 ∙ h.0), (refl, add_suc t.1 s.1 u.1 k r.1 h.1));
-    go_on = λ s t u r e. let h = reported s (GoOn u) e in ((u.0, suc t.1), ap (counted_turn (suc t.1)) (ap turn r.0 ∙ h.0), (refl, add_suc t.1 s.1 u.1 k r.1 h.1));
-    bare = λ s t u r e. let h = reported s (Bare u) e in ((u.0, suc t.1), ap (counted_turn (suc t.1)) (ap turn r.0 ∙ h.0), (refl, add_suc t.1 s.1 u.1 k r.1 h.1));
-    opens = λ s t u f r e. let h = reported s (Opens f u) e in (f, (u.0, suc t.1), ap (counted_turn (suc t.1)) (ap turn r.0 ∙ h.0), refl, (refl, add_suc t.1 s.1 u.1 k r.1 h.1));
+    close = λ s t u r e. let h = reported s (Close u)
+        e in ((u.0, suc t.1), ap (counted_turn (suc t.1)) (ap turn r.0 ∙ h.0), (refl, add_suc t.1 s.1 u.1 k r.1 h.1));
+    go_on = λ s t u r e. let h = reported s (GoOn u)
+        e in ((u.0, suc t.1), ap (counted_turn (suc t.1)) (ap turn r.0 ∙ h.0), (refl, add_suc t.1 s.1 u.1 k r.1 h.1));
+    bare = λ s t u r e. let h = reported s (Bare u)
+        e in ((u.0, suc t.1), ap (counted_turn (suc t.1)) (ap turn r.0 ∙ h.0), (refl, add_suc t.1 s.1 u.1 k r.1 h.1));
+    opens = λ s t u f r e. let h = reported s (Opens f u)
+        e in (f, (u.0, suc t.1), ap (counted_turn (suc t.1)) (ap turn r.0 ∙ h.0), refl, (refl, add_suc t.1 s.1 u.1 k r.1 h.1));
     join_halt = λ f g u w d r q e. let h = reported_out f u (Halted d) e in
         ap (λ o. then_on o whole') (ap (counted_outcome w.1) (ap (λ (a : F). join a w.0) r ∙ ap (join f) q.0 ∙ h.0))
         ∙ ap (λ (n : ℕ). Halted (d.0, n)) (q.1 ∙ ap (λ n. n + k) (sym h.1));
@@ -183,7 +188,9 @@ module _ (S F D : Type 0) (turn : S → Turn S F D) (join : F → S → Outcome 
   turn_counts fs (Bare t) = refl
   turn_counts fs (Opens f t) = refl
 
-  falls_at : (c c' : Stacked S F) (m : Move S F D) (m' : Move (S × ℕ) F (D × ℕ)) → m ≡ Goes c' → Counts m m' → moved_meaning (S × ℕ) F (D × ℕ) turn' join' whole' m' ≡ resume' c.outer (whole' (c.here, 0)) → turns_left c' + 1 ≡ turns_left c
+  falls_at : (c c' : Stacked S F) (m : Move S F D) (m' : Move (S × ℕ) F (D × ℕ)) → m ≡ Goes c' → Counts m m'
+      → moved_meaning (S × ℕ) F (D × ℕ) turn' join' whole' m' ≡ resume' c.outer (whole' (c.here, 0))
+      → turns_left c' + 1 ≡ turns_left c
   unfolding Counts
   falls_at c c' (Stops o) m' e k h = cc
   falls_at c c' (Goes b) m' e k h =
@@ -194,10 +201,12 @@ module _ (S F D : Type 0) (turn : S → Turn S F D) (join : F → S → Outcome 
 
   -- each move takes one turn
   pub turns_fall : (c c' : Stacked S F) → move S F D turn join c ≡ Goes c' → turns_left c' + 1 ≡ turns_left c
-  turns_fall c c' e = falls_at c c' (move S F D turn join c) _ e (turn_counts c.outer (turn c.here)) (move_keeps (S × ℕ) F (D × ℕ) turn' join' spent' size' left' falls' (record { outer = c.outer; here = (c.here, 0) }))
+  turns_fall c c' e = falls_at c c' (move S F D turn join c) _ e (turn_counts c.outer (turn c.here))
+      (move_keeps (S × ℕ) F (D × ℕ) turn' join' spent' size' left' falls' (record { outer = c.outer; here = (c.here, 0) }))
 
   -- two machines whose turns go alike have the same count of turns left
-  module _ (R : S → S → Type 0) (alike : (s t : S) → R s t → AlikeTurns S F D R (turn s) (turn t)) (alike_out : (f : F) (u w : S) → R u w → AlikeOuts S F D R (join f u) (join f w)) where
+  module _ (R : S → S → Type 0) (alike : (s t : S) → R s t → AlikeTurns S F D R (turn s) (turn t))
+      (alike_out : (f : F) (u w : S) → R u w → AlikeOuts S F D R (join f u) (join f w)) where
     abbrev R' : S × ℕ → S × ℕ → Type 0
     R' s t = R s.0 t.0 × (t.1 ≡ s.1)
 
@@ -208,7 +217,8 @@ module _ (S F D : Type 0) (turn : S → Turn S F D) (join : F → S → Outcome 
     met s t v r e = subst (λ x. AlikeTurns S F D R x (turn t.0)) e (alike s.0 t.0 r.0)
 
     met_out : (f g : F) (u w : S × ℕ) (v : Outcome S D) → g ≡ f → R' u w → join f u.0 ≡ v → AlikeOuts S F D R v (join g w.0)
-    met_out f g u w v q r e = subst (λ (a : F). AlikeOuts S F D R v (join a w.0)) (sym q) (subst (λ x. AlikeOuts S F D R x (join f w.0)) e (alike_out f u.0 w.0 r.0))
+    met_out f g u w v q r e = subst (λ (a : F). AlikeOuts S F D R v (join a w.0)) (sym q)
+        (subst (λ x. AlikeOuts S F D R x (join f w.0)) e (alike_out f u.0 w.0 r.0))
 
     beside : Follows (S × ℕ) F (D × ℕ) turn' join' whole' R' (λ f g. g ≡ f) Q'
     unfolding CountsTurn ReportsOut AlikeTurns AlikeOuts
@@ -221,15 +231,20 @@ module _ (S F D : Type 0) (turn : S → Turn S F D) (join : F → S → Outcome 
                 ∙ ap (after (S × ℕ) F (D × ℕ) join' whole' whole') (ap (counted_turn (suc t.1)) k.1)
                 ∙ ap (λ (n : ℕ). Halted (k.0, n)) (ap suc r.1 ∙ sym h.1),
           );
-      close = λ s t u r e. let h = reported s (Close u) e in let k = met s t (Close u.0) r h.0 in ((k.0, suc t.1), ap (counted_turn (suc t.1)) k.1, (k.2, ap suc r.1 ∙ sym h.1));
-      go_on = λ s t u r e. let h = reported s (GoOn u) e in let k = met s t (GoOn u.0) r h.0 in ((k.0, suc t.1), ap (counted_turn (suc t.1)) k.1, (k.2, ap suc r.1 ∙ sym h.1));
-      bare = λ s t u r e. let h = reported s (Bare u) e in let k = met s t (Bare u.0) r h.0 in ((k.0, suc t.1), ap (counted_turn (suc t.1)) k.1, (k.2, ap suc r.1 ∙ sym h.1));
-      opens = λ s t u f r e. let h = reported s (Opens f u) e in let k = met s t (Opens f u.0) r h.0 in (f, (k.0, suc t.1), ap (counted_turn (suc t.1)) k.1, refl, (k.2, ap suc r.1 ∙ sym h.1));
+      close = λ s t u r e. let h = reported s (Close u) e in let k =
+          met s t (Close u.0) r h.0 in ((k.0, suc t.1), ap (counted_turn (suc t.1)) k.1, (k.2, ap suc r.1 ∙ sym h.1));
+      go_on = λ s t u r e. let h = reported s (GoOn u) e in let k =
+          met s t (GoOn u.0) r h.0 in ((k.0, suc t.1), ap (counted_turn (suc t.1)) k.1, (k.2, ap suc r.1 ∙ sym h.1));
+      bare = λ s t u r e. let h = reported s (Bare u) e in let k =
+          met s t (Bare u.0) r h.0 in ((k.0, suc t.1), ap (counted_turn (suc t.1)) k.1, (k.2, ap suc r.1 ∙ sym h.1));
+      opens = λ s t u f r e. let h = reported s (Opens f u) e in let k =
+          met s t (Opens f u.0) r h.0 in (f, (k.0, suc t.1), ap (counted_turn (suc t.1)) k.1, refl, (k.2, ap suc r.1 ∙ sym h.1));
       join_halt = λ f g u w d q r e.
           let h = reported_out f u (Halted d) e in
           let k = met_out f g u w (Halted d.0) q r h.0 in
           (k.0, ap (λ o. then_on o whole') (ap (counted_outcome w.1) k.1) ∙ ap (λ (n : ℕ). Halted (k.0, n)) (r.1 ∙ sym h.1));
-      joins = λ f g u w v q r e. let h = reported_out f u (Closed v) e in let k = met_out f g u w (Closed v.0) q r h.0 in ((k.0, w.1), ap (counted_outcome w.1) k.1, (k.2, r.1 ∙ sym h.1));
+      joins = λ f g u w v q r e. let h = reported_out f u (Closed v) e in let k =
+          met_out f g u w (Closed v.0) q r h.0 in ((k.0, w.1), ap (counted_outcome w.1) k.1, (k.2, r.1 ∙ sym h.1));
       later = λ d o f q. (q.0, ap (λ p. then_on (then_on p (join' f)) whole') q.1);
     }
 

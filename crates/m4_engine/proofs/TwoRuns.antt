@@ -52,9 +52,11 @@ read_cut limits (Unopened name) r any_missing = λ e. cc
 
 sources_cut : (limits : Limits) (ss : List Source) (p : Progress) → IsCut p.over → IsCut (after_sources limits ss p).over
 sources_cut limits [] p h = h
-sources_cut limits (s ∷ ss) p h = sources_cut limits ss (after_source limits s p) (unless_cut p.over p (read_source limits s p.so_far p.any_missing) h (read_cut limits s p.so_far p.any_missing))
+sources_cut limits (s ∷ ss) p h = sources_cut limits ss (after_source limits s p)
+    (unless_cut p.over p (read_source limits s p.so_far p.any_missing) h (read_cut limits s p.so_far p.any_missing))
 
-next_cut : (go : Progress → Progress) (limits : Limits) → ((q : Progress) → IsCut q.over → IsCut (go q).over) → (v : Option EndReason) (saved : List (List ℕ)) (p : Progress) → IsCut p.over → IsCut (next_round go limits v saved p).over
+next_cut : (go : Progress → Progress) (limits : Limits) → ((q : Progress) → IsCut q.over → IsCut (go q).over)
+    → (v : Option EndReason) (saved : List (List ℕ)) (p : Progress) → IsCut p.over → IsCut (next_round go limits v saved p).over
 next_cut go limits g (Some x) saved p h = h
 next_cut go limits g None [] p h = h
 next_cut go limits g None (x ∷ xs) p h = g (read_saved limits (x ∷ xs) p) (over_cut _)
@@ -67,12 +69,16 @@ start_cut : (start : Start) → IsCut (begun start).over
 start_cut (From s issued) = λ e. cc
 start_cut (Faulty fault) = λ e. cc
 
-froze_by : (v : Option EndReason) (saved : List (List ℕ)) (r : RunSoFar) (any_missing : Bool) → IsCut v → (result_by v true saved r any_missing).reason ≡ Ends causes.Done → (text : List ℕ) × ((result_by v true saved r any_missing).frozen ≡ Some text)
+froze_by : (v : Option EndReason) (saved : List (List ℕ)) (r : RunSoFar) (any_missing : Bool) → IsCut v
+    → (result_by v true saved r any_missing).reason ≡ Ends causes.Done
+    → (text : List ℕ) × ((result_by v true saved r any_missing).frozen ≡ Some text)
 froze_by None saved r any_missing c e = (freeze r.state, refl)
 froze_by (Some h) saved r any_missing c e = absurd (c (ap Some e))
 
 -- a run that freezes and read everything has a frozen text
-pub has_text : (o : Options) (start : Start) (ss : List Source) → (run_from (freezing true o) start ss).reason ≡ Ends causes.Done → (text : List ℕ) × ((run_from (freezing true o) start ss).frozen ≡ Some text)
+pub has_text : (o : Options) (start : Start) (ss : List Source)
+    → (run_from (freezing true o) start ss).reason ≡ Ends causes.Done
+    → (text : List ℕ) × ((run_from (freezing true o) start ss).frozen ≡ Some text)
 has_text o start ss e =
     let limits : Limits = limits_of o in
     let p : Progress = after_sources limits ss (begun start) in
@@ -80,7 +86,8 @@ has_text o start ss e =
     froze_by q.over (saved_after ss p) q.so_far q.any_missing (rounds_cut (suc limits.calls) limits p (sources_cut limits ss (begun start) (start_cut start))) e
 
 -- which the writer has, where it was empty
-text_is : (frozen : Option (List ℕ)) (t text : List ℕ) (v : Three (Option (List ℕ))) → frozen ≡ Some t → v.frozen_old ≡ Some [] → v.frozen_new ≡ Some text → HasFrozen frozen v → frozen ≡ Some text
+text_is : (frozen : Option (List ℕ)) (t text : List ℕ) (v : Three (Option (List ℕ))) → frozen ≡ Some t
+    → v.frozen_old ≡ Some [] → v.frozen_new ≡ Some text → HasFrozen frozen v → frozen ≡ Some text
 text_is frozen t text v e old new h =
     let k : v.frozen_new ≡ with_bytes v.frozen_old t = subst (λ (x : Option (List ℕ)). HasFrozen x v) e h in
     let m : Some text ≡ Some t = sym new ∙ k ∙ ap (λ (x : Option (List ℕ)). with_bytes x t) old in
@@ -109,7 +116,8 @@ both_wrote a b c d x y z e f g h =
     g ∙ ap (λ (k : Option (List ℕ)). with_bytes k y) (f ∙ e) ∙ with_bytes-append a x y ∙ ap (with_bytes a) (sym h)
 
 -- the writer of the frozen text is that of the later run
-has_same : (v : Option (List ℕ)) (two : Contents) (w : Three (Option (List ℕ))) → HasFrozen v w → HasFrozen v (record { two = two; frozen_old = w.frozen_old; frozen_new = w.frozen_new })
+has_same : (v : Option (List ℕ)) (two : Contents) (w : Three (Option (List ℕ))) → HasFrozen v w
+    → HasFrozen v (record { two = two; frozen_old = w.frozen_old; frozen_new = w.frozen_new })
 has_same None two w h = h
 has_same (Some text) two w h = h
 
@@ -149,6 +157,8 @@ two_runs o freezes prefix file as' bs text e f v w g i s n z old new h d a b l =
       reason = joins.reason ∙ q.reason;
       status = q.status ∙ sym joins.status;
       output = both_wrote (v.two).out_old (v.two).out_new (w.two).out_old (w.two).out_new r.output t.output j.output k.output a q.output joins.output;
-      messages = both_wrote (v.two).messages_old (v.two).messages_new (w.two).messages_old (w.two).messages_new r.messages t.messages j.messages k.messages b q.messages joins.messages;
-      frozen = λ c. has_same j.frozen _ w (subst (λ (x : Option (List ℕ)). HasFrozen x w) (sym joins.frozen) (subst (λ (y : Cause). FrozenBy y t w) c h.frozen));
+      messages = both_wrote (v.two).messages_old (v.two).messages_new (w.two).messages_old (w.two).messages_new
+          r.messages t.messages j.messages k.messages b q.messages joins.messages;
+      frozen = λ c. has_same j.frozen _ w
+          (subst (λ (x : Option (List ℕ)). HasFrozen x w) (sym joins.frozen) (subst (λ (y : Cause). FrozenBy y t w) c h.frozen));
     }

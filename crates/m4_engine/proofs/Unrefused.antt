@@ -180,7 +180,8 @@ rules = record {
 
 input_unrefused : (limits : Limits) (r : RunSoFar) (p : Pending) → is_refusal (expand_input limits r p).reason ≡ false
 unfolding Post Outs
-input_unrefused limits r p = go (expand (expansion_of limits r p)) (holds Expansion Kept Ended turn join out_of_bound_at size_of calls_left falls Post rules (expansion_of limits r p))
+input_unrefused limits r p = go (expand (expansion_of limits r p))
+    (holds Expansion Kept Ended turn join out_of_bound_at size_of calls_left falls Post rules (expansion_of limits r p))
   where
     go : (o : Outcome Expansion Ended) → Post (expansion_of limits r p) o → is_refusal (ended_of o).reason ≡ false
     go (Halted d) v = v
@@ -207,7 +208,8 @@ over_unrefused (Ends causes.OutOfMemory) e = refl
 over_unrefused NeedsInput e = refl
 over_unrefused OutOfBound e = refl
 
-unless_unrefused : (o : Option EndReason) (old new : Progress) → is_refused old.over ≡ false → is_refused new.over ≡ false → is_refused (unless_over o old new).over ≡ false
+unless_unrefused : (o : Option EndReason) (old new : Progress) → is_refused old.over ≡ false
+    → is_refused new.over ≡ false → is_refused (unless_over o old new).over ≡ false
 unless_unrefused None old new h g = g
 unless_unrefused (Some x) old new h g = h
 
@@ -217,18 +219,26 @@ read_unrefused limits (Unopened name) r any_missing = refl
 
 sources_unrefused : (limits : Limits) (ss : List Source) (p : Progress) → is_refused p.over ≡ false → is_refused (after_sources limits ss p).over ≡ false
 sources_unrefused limits [] p h = h
-sources_unrefused limits (s ∷ ss) p h = sources_unrefused limits ss (after_source limits s p) (unless_unrefused p.over p (read_source limits s p.so_far p.any_missing) h (read_unrefused limits s p.so_far p.any_missing))
+sources_unrefused limits (s ∷ ss) p h =
+    sources_unrefused limits ss (after_source limits s p)
+    (unless_unrefused p.over p (read_source limits s p.so_far p.any_missing) h (read_unrefused limits s p.so_far p.any_missing))
 
-next_unrefused : (go : Progress → Progress) (limits : Limits) → ((q : Progress) → is_refused q.over ≡ false → is_refused (go q).over ≡ false) → (v : Option EndReason) (saved : List (List ℕ)) (p : Progress) → is_refused p.over ≡ false → is_refused (next_round go limits v saved p).over ≡ false
+next_unrefused : (go : Progress → Progress) (limits : Limits)
+    → ((q : Progress) → is_refused q.over ≡ false → is_refused (go q).over ≡ false)
+    → (v : Option EndReason) (saved : List (List ℕ)) (p : Progress) → is_refused p.over ≡ false
+    → is_refused (next_round go limits v saved p).over ≡ false
 next_unrefused go limits g (Some x) saved p h = h
 next_unrefused go limits g None [] p h = h
-next_unrefused go limits g None (x ∷ xs) p h = g (read_saved limits (x ∷ xs) p) (over_unrefused _ (input_unrefused limits (record p.so_far { saved = [] }) (wrapped_pending (joined_back (x ∷ xs)))))
+next_unrefused go limits g None (x ∷ xs) p h =
+    g (read_saved limits (x ∷ xs) p)
+    (over_unrefused _ (input_unrefused limits (record p.so_far { saved = [] }) (wrapped_pending (joined_back (x ∷ xs)))))
 
 rounds_unrefused : (n : ℕ) (limits : Limits) (p : Progress) → is_refused p.over ≡ false → is_refused (rounds n limits p).over ≡ false
 rounds_unrefused zero limits p h = h
 rounds_unrefused (suc n) limits p h = next_unrefused (rounds n limits) limits (rounds_unrefused n limits) p.over (p.so_far).saved p h
 
-result_unrefused : (v : Option EndReason) (freezes : Bool) (saved : List (List ℕ)) (r : RunSoFar) (any_missing : Bool) → is_refused v ≡ false → is_refusal (result_by v freezes saved r any_missing).reason ≡ false
+result_unrefused : (v : Option EndReason) (freezes : Bool) (saved : List (List ℕ)) (r : RunSoFar) (any_missing : Bool)
+    → is_refused v ≡ false → is_refusal (result_by v freezes saved r any_missing).reason ≡ false
 result_unrefused None freezes saved r any_missing h = refl
 result_unrefused (Some x) freezes saved r any_missing h = h
 
@@ -249,13 +259,16 @@ unless_stays (Some y) old new x e h = h
 
 sources_stay : (limits : Limits) (ss : List Source) (p : Progress) (x : EndReason) → p.over ≡ Some x → (after_sources limits ss p).over ≡ Some x
 sources_stay limits [] p x e = e
-sources_stay limits (s ∷ ss) p x e = sources_stay limits ss (after_source limits s p) x (unless_stays p.over p (read_source limits s p.so_far p.any_missing) x e e)
+sources_stay limits (s ∷ ss) p x e = sources_stay limits ss (after_source limits s p) x
+    (unless_stays p.over p (read_source limits s p.so_far p.any_missing) x e e)
 
-next_stays : (go : Progress → Progress) (limits : Limits) (v : Option EndReason) (saved : List (List ℕ)) (p : Progress) (x : EndReason) → v ≡ Some x → p.over ≡ Some x → (next_round go limits v saved p).over ≡ Some x
+next_stays : (go : Progress → Progress) (limits : Limits) (v : Option EndReason) (saved : List (List ℕ)) (p : Progress)
+    (x : EndReason) → v ≡ Some x → p.over ≡ Some x → (next_round go limits v saved p).over ≡ Some x
 next_stays go limits None saved p x e h = absurd cc
 next_stays go limits (Some y) saved p x e h = h
 
-result_stays : (v : Option EndReason) (freezes : Bool) (saved : List (List ℕ)) (r : RunSoFar) (any_missing : Bool) (x : EndReason) → v ≡ Some x → (result_by v freezes saved r any_missing).reason ≡ x
+result_stays : (v : Option EndReason) (freezes : Bool) (saved : List (List ℕ)) (r : RunSoFar) (any_missing : Bool)
+    (x : EndReason) → v ≡ Some x → (result_by v freezes saved r any_missing).reason ≡ x
 result_stays None freezes saved r any_missing x e = absurd cc
 result_stays (Some y) freezes saved r any_missing x e = ap (λ (o : Option EndReason). go o) e
   where
@@ -273,7 +286,8 @@ faulty_refused o fault sources =
     (next_stays (rounds limits.calls limits) limits p.over (p.so_far).saved p (Ends (causes.Frozen fault)) h h)
 
 -- if one run from a start read everything, no run from it is refused
-pub unrefused : (o o' : Options) (start : Start) (xs ys : List Source) → (run_from o start xs).reason ≡ Ends causes.Done → is_refusal (run_from o' start ys).reason ≡ false
+pub unrefused : (o o' : Options) (start : Start) (xs ys : List Source) → (run_from o start xs).reason ≡ Ends causes.Done
+    → is_refusal (run_from o' start ys).reason ≡ false
 unrefused o o' (From s issued) xs ys e = from_unrefused o' s issued ys
 unrefused o o' (Faulty fault) xs ys e =
     absurd (let k : Ends (causes.Frozen fault) ≡ Ends causes.Done = sym (faulty_refused o fault xs) ∙ e in cc)

@@ -44,7 +44,8 @@ begun_longer o n x y h b = (
 )
 
 -- a source broke off
-broke_short : (freezes : Bool) (limits : Limits) (ss : List Source) (p : Progress) (new : SessionState) (w : Contents) (cause : Cause) (e : Ending) → e.wrapped ≡ false → BrokeOff new p w cause → WrotePrefix (result_after freezes limits ss p) e w
+broke_short : (freezes : Bool) (limits : Limits) (ss : List Source) (p : Progress) (new : SessionState) (w : Contents)
+    (cause : Cause) (e : Ending) → e.wrapped ≡ false → BrokeOff new p w cause → WrotePrefix (result_after freezes limits ss p) e w
 broke_short freezes limits ss p new w cause e f h =
     let k = finish_begins freezes (saved_after ss p) limits p.so_far p (extends_same p.so_far) in
     record {
@@ -72,11 +73,14 @@ none_wrapped causes.Write = refl
 none_wrapped causes.OutOfMemory = refl
 
 -- the status of a session that is over
-over_status : (new : SessionState) (cause : Cause) (any_missing : Bool) → new.over ≡ Some cause → new.any_missing ≡ any_missing → status_at new ≡ status_of (Ends cause) any_missing
+over_status : (new : SessionState) (cause : Cause) (any_missing : Bool) → new.over ≡ Some cause
+    → new.any_missing ≡ any_missing → status_at new ≡ status_of (Ends cause) any_missing
 over_status new cause any_missing e f = ap (λ (o : Option Cause). status_of (how_by o) new.any_missing) e ∙ ap (status_of (Ends cause)) f
 
 -- a source ended the run
-over_there : (freezes : Bool) (ss : List Source) (p : Progress) (old new : SessionState) (w : Contents) (cause : Cause) → Completed old new p w → new.over ≡ Some cause → WroteAll (result_after freezes old.limits ss p) (record { status = status_at new; cause = cause; wrapped = false }) w
+over_there : (freezes : Bool) (ss : List Source) (p : Progress) (old new : SessionState) (w : Contents) (cause : Cause)
+    → Completed old new p w → new.over ≡ Some cause
+    → WroteAll (result_after freezes old.limits ss p) (record { status = status_at new; cause = cause; wrapped = false }) w
 over_there freezes ss p old new w cause f o =
     let v : p.over ≡ Some (Ends cause) = over_after_it new p cause f.progress o in
     let q : result_after freezes old.limits ss p ≡ result_by (Some (Ends cause)) freezes [] p.so_far p.any_missing =
@@ -92,7 +96,8 @@ over_there freezes ss p old new w cause f o =
     })
 
 -- the run ended before its last source did
-ended_early : (freezes : Bool) (ss : List Source) (p : Progress) (old new : SessionState) (w : Contents) (e : Stop) → GoesTo p old new w (Err e) → GivesIn (result_after freezes old.limits ss p) (ending_by (status_at new) (Err e)) w
+ended_early : (freezes : Bool) (ss : List Source) (p : Progress) (old new : SessionState) (w : Contents) (e : Stop)
+    → GoesTo p old new w (Err e) → GivesIn (result_after freezes old.limits ss p) (ending_by (status_at new) (Err e)) w
 ended_early freezes ss p old new w stops.Finished h = absurd h
 ended_early freezes ss p old new w (stops.Ended causes.Read) h = broke_short freezes old.limits ss p new w causes.Read _ refl h
 ended_early freezes ss p old new w (stops.Ended causes.Write) h = broke_short freezes old.limits ss p new w causes.Write _ refl h
@@ -107,7 +112,8 @@ ended_early freezes ss p old new w (stops.Ended causes.NestingLimit) h = over_th
 ended_early freezes ss p old new w (stops.Ended (causes.Frozen f)) h = absurd h
 
 -- saved texts open no source
-round_missed : (go : Progress → Progress) (limits : Limits) → ((q : Progress) → (go q).any_missing ≡ q.any_missing) → (o : Option EndReason) (saved : List (List ℕ)) (p : Progress) → (next_round go limits o saved p).any_missing ≡ p.any_missing
+round_missed : (go : Progress → Progress) (limits : Limits) → ((q : Progress) → (go q).any_missing ≡ q.any_missing)
+    → (o : Option EndReason) (saved : List (List ℕ)) (p : Progress) → (next_round go limits o saved p).any_missing ≡ p.any_missing
 round_missed go limits h (Some reason) saved p = refl
 round_missed go limits h None [] p = refl
 round_missed go limits h None (x ∷ xs) p = h (read_saved limits (x ∷ xs) p)
@@ -117,7 +123,8 @@ rounds_missed zero limits p = refl
 rounds_missed (suc n) limits p = round_missed (rounds n limits) limits (rounds_missed n limits) p.over (p.so_far).saved p
 
 -- the bytes written after those that were written before
-pub closed_after : (freezes : Bool) (o m : List ℕ) (r : RunSoFar) → closed_output freezes (record r { output = o ++ r.output; messages = m ++ r.messages }) ≡ o ++ closed_output freezes r
+pub closed_after : (freezes : Bool) (o m : List ℕ) (r : RunSoFar)
+    → closed_output freezes (record r { output = o ++ r.output; messages = m ++ r.messages }) ≡ o ++ closed_output freezes r
 closed_after true o m r = refl
 closed_after false o m r = append_assoc o r.output (close r.state)
 
@@ -128,12 +135,16 @@ result_output : (freezes : Bool) (o m : List ℕ) (over : Option EndReason) (sav
 result_output freezes o m None saved r any_missing = closed_after freezes o m r
 result_output freezes o m (Some h) saved r any_missing = refl
 
-result_messages : (freezes : Bool) (o m : List ℕ) (over : Option EndReason) (saved : List (List ℕ)) (r : RunSoFar) (any_missing : Bool) → (result_by over freezes saved (record r { output = o ++ r.output; messages = m ++ r.messages }) any_missing).messages ≡ m ++ r.messages
+result_messages : (freezes : Bool) (o m : List ℕ) (over : Option EndReason) (saved : List (List ℕ)) (r : RunSoFar)
+    (any_missing : Bool) → (result_by over freezes saved
+    (record r { output = o ++ r.output; messages = m ++ r.messages }) any_missing).messages ≡ m ++ r.messages
 result_messages freezes o m None saved r any_missing = refl
 result_messages freezes o m (Some h) saved r any_missing = refl
 
 -- the saved texts, if there is a source or none was saved before
-saved_there : (limits : Limits) (ss : List Source) (p0 : Progress) → (p0.so_far).saved ≡ [] → (after_sources limits ss p0).over ≡ None → saved_after ss (after_sources limits ss p0) ≡ ((after_sources limits ss p0).so_far).saved
+saved_there : (limits : Limits) (ss : List Source) (p0 : Progress) → (p0.so_far).saved ≡ []
+    → (after_sources limits ss p0).over ≡ None
+    → saved_after ss (after_sources limits ss p0) ≡ ((after_sources limits ss p0).so_far).saved
 saved_there limits [] p0 e o = sym e
 saved_there limits (s ∷ ss) p0 e o = ap (λ (h : Option EndReason). saved_unless_over h (after_sources limits (s ∷ ss) p0).so_far) o
 
@@ -141,7 +152,9 @@ unfrozen : (over : Option EndReason) (saved : List (List ℕ)) (r : RunSoFar) (a
 unfrozen None saved r any_missing = refl
 unfrozen (Some h) saved r any_missing = refl
 
-module _ (freezes : Bool) (limits : Limits) (ss : List Source) (p : Progress) (old mid new : SessionState) (out0 out1 out2 reported0 reported1 reported2 : Option (List ℕ)) (l : old.limits ≡ limits) (f : Completed old mid p (writers out0 out1 reported0 reported1)) (live : mid.over ≡ None) where
+module _ (freezes : Bool) (limits : Limits) (ss : List Source) (p : Progress) (old mid new : SessionState)
+    (out0 out1 out2 reported0 reported1 reported2 : Option (List ℕ)) (l : old.limits ≡ limits)
+    (f : Completed old mid p (writers out0 out1 reported0 reported1)) (live : mid.over ≡ None) where
   abbrev W : Contents
   W = writers out0 out2 reported0 reported2
 
@@ -157,7 +170,9 @@ module _ (freezes : Bool) (limits : Limits) (ss : List Source) (p : Progress) (o
       ∙ wraps_after (p.so_far).output (p.so_far).messages limits (progress_of mid)
       ∙ ap (λ (x : Limits). after (p.so_far).output (p.so_far).messages (after_wraps x (progress_of mid))) (sym (f.limits ∙ l))
 
-  result_is : (o : Option EndReason) → B.over ≡ o → result_after freezes limits ss p ≡ result_by o freezes (saved_after ss p) (after (p.so_far).output (p.so_far).messages B).so_far B.any_missing
+  result_is : (o : Option EndReason) → B.over ≡ o
+      → result_after freezes limits ss p
+      ≡ result_by o freezes (saved_after ss p) (after (p.so_far).output (p.so_far).messages B).so_far B.any_missing
   result_is o e =
       ap (result_of freezes (saved_after ss p)) after_is
       ∙ ap (λ (x : Option EndReason). result_by x freezes (saved_after ss p) (after (p.so_far).output (p.so_far).messages B).so_far B.any_missing) e
@@ -166,9 +181,11 @@ module _ (freezes : Bool) (limits : Limits) (ss : List Source) (p : Progress) (o
   missed_is = rounds_missed (suc (mid.limits).calls) mid.limits (progress_of mid)
 
   -- everything was read
-  pub closed_well : (wrapped : Bool) → wrapped ≡ is_saved mid.saved → saved_after ss p ≡ (p.so_far).saved → Closed freezes mid new V → GivesIn (result_after freezes limits ss p) (ending_by (status_at new) (Ok wrapped)) W
+  pub closed_well : (wrapped : Bool) → wrapped ≡ is_saved mid.saved → saved_after ss p ≡ (p.so_far).saved
+      → Closed freezes mid new V → GivesIn (result_after freezes limits ss p) (ending_by (status_at new) (Ok wrapped)) W
   closed_well wrapped e s c =
-      subst (λ (r : RunResult). WroteAll r (record { status = status_at new; cause = causes.Done; wrapped = wrapped }) W) (sym (result_is None c.ended)) (record {
+      subst (λ (r : RunResult). WroteAll r (record { status = status_at new; cause = causes.Done; wrapped = wrapped })
+      W) (sym (result_is None c.ended)) (record {
         reason = refl;
         status = ap (λ (o : Option Cause). status_of (how_by o) new.any_missing) c.over ∙ ap (status_of (Ends causes.Done)) (c.any_missing ∙ sym missed_is);
         wrapped = e ∙ ap is_saved (ap (λ (x : Progress). (x.so_far).saved) f.progress ∙ sym s);
@@ -176,7 +193,8 @@ module _ (freezes : Bool) (limits : Limits) (ss : List Source) (p : Progress) (o
             ∙ ap (λ (x : Option (List ℕ)). with_bytes x (closed_output freezes B.so_far)) f.output
             ∙ with_bytes-append out0 (p.so_far).output _
             ∙ ap (with_bytes out0) (sym (closed_after freezes (p.so_far).output (p.so_far).messages B.so_far));
-        messages = c.messages ∙ ap (λ (x : Option (List ℕ)). with_bytes x (B.so_far).messages) f.messages ∙ with_bytes-append reported0 (p.so_far).messages (B.so_far).messages;
+        messages = c.messages ∙ ap (λ (x : Option (List ℕ)). with_bytes x (B.so_far).messages) f.messages
+            ∙ with_bytes-append reported0 (p.so_far).messages (B.so_far).messages;
       })
 
   -- the end broke off
@@ -186,24 +204,33 @@ module _ (freezes : Bool) (limits : Limits) (ss : List Source) (p : Progress) (o
       record {
         wrapped = v;
         output = begun_after out0 out1 out2 (p.so_far).output (result_of freezes [] B).output [] _ f.output u.output
-            (ap (λ (r : RunResult). r.output) q ∙ result_output freezes (p.so_far).output (p.so_far).messages B.over (saved_after ss p) B.so_far B.any_missing ∙ sym (append-nil _));
+            (ap (λ (r : RunResult). r.output) q
+            ∙ result_output freezes (p.so_far).output (p.so_far).messages B.over (saved_after ss p) B.so_far
+            B.any_missing ∙ sym (append-nil _));
         messages = begun_after reported0 reported1 reported2 (p.so_far).messages (B.so_far).messages [] _ f.messages u.messages
-            (ap (λ (r : RunResult). r.messages) q ∙ result_messages freezes (p.so_far).output (p.so_far).messages B.over (saved_after ss p) B.so_far B.any_missing ∙ sym (append-nil _));
+            (ap (λ (r : RunResult). r.messages) q
+            ∙ result_messages freezes (p.so_far).output (p.so_far).messages B.over (saved_after ss p) B.so_far
+            B.any_missing ∙ sym (append-nil _));
       }
 
   -- a saved text ended the run
-  over_end : (cause : Cause) → false ≡ wrapped_by cause (saved_after ss p) → Completed mid new B V → new.over ≡ Some cause → WroteAll (result_after freezes limits ss p) (record { status = status_at new; cause = cause; wrapped = false }) W
+  over_end : (cause : Cause) → false ≡ wrapped_by cause (saved_after ss p) → Completed mid new B V
+      → new.over ≡ Some cause → WroteAll (result_after freezes limits ss p)
+      (record { status = status_at new; cause = cause; wrapped = false }) W
   over_end cause n g o =
       let v : B.over ≡ Some (Ends cause) = over_after_it new B cause g.progress o in
-      subst (λ (r : RunResult). WroteAll r (record { status = status_at new; cause = cause; wrapped = false }) W) (sym (result_is (Some (Ends cause)) v)) (record {
+      subst (λ (r : RunResult). WroteAll r (record { status = status_at new; cause = cause; wrapped = false }) W)
+      (sym (result_is (Some (Ends cause)) v)) (record {
         reason = refl;
         status = over_status new cause B.any_missing o (ap (λ (x : Progress). x.any_missing) g.progress);
         wrapped = n;
         output = g.output ∙ ap (λ (x : Option (List ℕ)). with_bytes x (B.so_far).output) f.output ∙ with_bytes-append out0 (p.so_far).output (B.so_far).output;
-        messages = g.messages ∙ ap (λ (x : Option (List ℕ)). with_bytes x (B.so_far).messages) f.messages ∙ with_bytes-append reported0 (p.so_far).messages (B.so_far).messages;
+        messages = g.messages ∙ ap (λ (x : Option (List ℕ)). with_bytes x (B.so_far).messages) f.messages
+            ∙ with_bytes-append reported0 (p.so_far).messages (B.so_far).messages;
       })
 
-  pub ended_late : (e : Stop) → IsOpen mid → EndGives freezes mid new V (Err e) → GivesIn (result_after freezes limits ss p) (ending_by (status_at new) (Err e)) W
+  pub ended_late : (e : Stop) → IsOpen mid → EndGives freezes mid new V (Err e)
+      → GivesIn (result_after freezes limits ss p) (ending_by (status_at new) (Err e)) W
   ended_late stops.Finished o h = absurd (h.closed o)
   ended_late (stops.Ended causes.Done) o h = absurd h
   ended_late (stops.Ended causes.Read) o h = absurd h
@@ -254,7 +281,8 @@ module _ (freezes : Bool) (limits : Limits) (ss : List Source) (p : Progress) (o
               ∙ with_bytes-append reported0 (p.so_far).messages (B.so_far).messages ∙ ap (with_bytes reported0) (sym k);
         }
 
-    frozen_began : freezes ≡ true → IsSpared LaterThree ⊎ FreezeBegan mid LaterThree → IsSpared WholeThree ⊎ FrozenBegan (result_after freezes limits ss p) WholeThree
+    frozen_began : freezes ≡ true → IsSpared LaterThree ⊎ FreezeBegan mid LaterThree
+        → IsSpared WholeThree ⊎ FrozenBegan (result_after freezes limits ss p) WholeThree
     frozen_began e (inl h) = inl h
     frozen_began e (inr h) = inr (frozen_began_so e h)
 
@@ -270,7 +298,9 @@ module _ (freezes : Bool) (limits : Limits) (ss : List Source) (p : Progress) (o
     last_end z z' (stops.Ended causes.Write) u h = last_write z z' freezes refl u h
     last_end z z' e u h = tt
 
-    frozen_late : freezes ≡ true → (e : Stop) → FrozenGives mid LaterThree (Err e) → IsOpen mid → EndGives freezes mid new V (Err e) → FrozenBy (ending_by (status_at new) (Err e)).cause (result_after freezes limits ss p) WholeThree
+    frozen_late : freezes ≡ true → (e : Stop) → FrozenGives mid LaterThree (Err e) → IsOpen mid
+        → EndGives freezes mid new V (Err e)
+        → FrozenBy (ending_by (status_at new) (Err e)).cause (result_after freezes limits ss p) WholeThree
     frozen_late t stops.Finished h o k = absurd (k.closed o)
     frozen_late t (stops.Ended causes.Done) h o k = absurd k
     frozen_late t (stops.Ended causes.Read) h o k = h
@@ -284,7 +314,8 @@ module _ (freezes : Bool) (limits : Limits) (ss : List Source) (p : Progress) (o
     frozen_late t (stops.Ended causes.NestingLimit) h o k = h
     frozen_late t (stops.Ended (causes.Frozen x)) h o k = h
 
-    spared_late : (e : Stop) → IsSpared WholeThree → IsOpen mid → EndGives freezes mid new V (Err e) → FrozenBy (ending_by (status_at new) (Err e)).cause (result_after freezes limits ss p) WholeThree
+    spared_late : (e : Stop) → IsSpared WholeThree → IsOpen mid → EndGives freezes mid new V (Err e)
+        → FrozenBy (ending_by (status_at new) (Err e)).cause (result_after freezes limits ss p) WholeThree
     spared_late stops.Finished h o k = absurd (k.closed o)
     spared_late (stops.Ended causes.Done) h o k = absurd k
     spared_late (stops.Ended causes.Read) h o k = h
@@ -299,7 +330,8 @@ module _ (freezes : Bool) (limits : Limits) (ss : List Source) (p : Progress) (o
     spared_late (stops.Ended (causes.Frozen x)) h o k = h
 
     -- the end by its answer
-    late_by : (b : Bool) → b ≡ freezes → (e : Stop) → IsOpen mid → CloseGives b mid new LaterThree (Err e) → RunGives (result_after freezes limits ss p) (ending_by (status_at new) (Err e)) WholeThree
+    late_by : (b : Bool) → b ≡ freezes → (e : Stop) → IsOpen mid → CloseGives b mid new LaterThree (Err e)
+        → RunGives (result_after freezes limits ss p) (ending_by (status_at new) (Err e)) WholeThree
     late_by true t e o h =
         let k : EndGives freezes mid new V (Err e) = subst (λ b. EndGives b mid new V (Err e)) t h.0 in
         record { gives = ended_late e o k; frozen = frozen_late (sym t) e h.1 o k }
@@ -307,7 +339,9 @@ module _ (freezes : Bool) (limits : Limits) (ss : List Source) (p : Progress) (o
         let k : EndGives freezes mid new V (Err e) = subst (λ b. EndGives b mid new V (Err e)) t h.0 in
         record { gives = ended_late e o k; frozen = spared_late e h.1 o k }
 
-    well_by : (b : Bool) → b ≡ freezes → (wrapped : Bool) → wrapped ≡ is_saved mid.saved → saved_after ss p ≡ (p.so_far).saved → CloseGives b mid new LaterThree (Ok tt) → RunGives (result_after freezes limits ss p) (ending_by (status_at new) (Ok wrapped)) WholeThree
+    well_by : (b : Bool) → b ≡ freezes → (wrapped : Bool) → wrapped ≡ is_saved mid.saved
+        → saved_after ss p ≡ (p.so_far).saved → CloseGives b mid new LaterThree (Ok tt)
+        → RunGives (result_after freezes limits ss p) (ending_by (status_at new) (Ok wrapped)) WholeThree
     well_by true t wrapped e s h =
         let k : Closed freezes mid new V = subst (λ b. Closed b mid new V) t h.0 in
         record { gives = closed_well wrapped e s k; frozen = frozen_well (sym t) k.ended h.1 }
@@ -324,7 +358,8 @@ module _ (freezes : Bool) (limits : Limits) (ss : List Source) (p : Progress) (o
     sized_by false h t = cc
 
 -- the same with answers of their own
-spared_early : (c : RunResult) (status : ℕ) (e : Stop) (w : Three (Option (List ℕ))) (new : SessionState) → IsLeft {A = Unit} new (Err e) → IsSpared w → FrozenBy (ending_by status (Err e)).cause c w
+spared_early : (c : RunResult) (status : ℕ) (e : Stop) (w : Three (Option (List ℕ))) (new : SessionState)
+    → IsLeft {A = Unit} new (Err e) → IsSpared w → FrozenBy (ending_by status (Err e)).cause c w
 spared_early c status stops.Finished w new l h = absurd l
 spared_early c status (stops.Ended causes.Done) w new l h = absurd l
 spared_early c status (stops.Ended causes.Read) w new l h = h
@@ -359,8 +394,10 @@ pub late_so : (freezes : Bool) (limits : Limits) (ss : List Source) (p : Progres
     (record { two = writers out0 out2 reported0 reported2; frozen_old = frozen; frozen_new = frozen' })
 late_so freezes limits ss p old mid new out0 out1 out2 reported0 reported1 reported2 frozen frozen' l f e q r i j o h =
     let v : Three (Option (List ℕ)) = record { two = writers out1 out2 reported1 reported2; frozen_old = frozen; frozen_new = frozen' } in
-    subst (λ (x : Result Bool Stop). RunGives (result_after freezes limits ss p) (ending_by (status_at new) x) (record { two = writers out0 out2 reported0 reported2; frozen_old = frozen; frozen_new = frozen' })) (sym j)
-    (late_by freezes limits ss p old mid new out0 out1 out2 reported0 reported1 reported2 l f.0 f.1 frozen frozen' freezes refl e o (subst (CloseGives freezes mid new v) i h))
+    subst (λ (x : Result Bool Stop). RunGives (result_after freezes limits ss p) (ending_by (status_at new) x)
+    (record { two = writers out0 out2 reported0 reported2; frozen_old = frozen; frozen_new = frozen' })) (sym j)
+    (late_by freezes limits ss p old mid new out0 out1 out2 reported0 reported1 reported2 l f.0 f.1 frozen frozen'
+    freezes refl e o (subst (CloseGives freezes mid new v) i h))
 
 -- a run that its end breaks off
 pub last_so : {Z : Type 0} → (z z' : Z) (freezes : Bool) (limits : Limits) (ss : List Source) (p : Progress) (old mid new : SessionState)
@@ -373,8 +410,10 @@ pub last_so : {Z : Type 0} → (z z' : Z) (freezes : Bool) (limits : Limits) (ss
     (record { two = writers out0 out2 reported0 reported2; frozen_old = frozen; frozen_new = frozen' })
 last_so z z' freezes limits ss p old mid new out0 out1 out2 reported0 reported1 reported2 frozen frozen' l f e q r i j u h =
     let v : Three (Option (List ℕ)) = record { two = writers out1 out2 reported1 reported2; frozen_old = frozen; frozen_new = frozen' } in
-    subst (λ (x : Result Bool Stop). FrozenLast (ending_by 0 x).cause (result_after freezes limits ss p) z z' (record { two = writers out0 out2 reported0 reported2; frozen_old = frozen; frozen_new = frozen' })) (sym j)
-    (last_end freezes limits ss p old mid new out0 out1 out2 reported0 reported1 reported2 l f.0 f.1 frozen frozen' z z' e u (subst (FreezeUses mid z z' v) i h))
+    subst (λ (x : Result Bool Stop). FrozenLast (ending_by 0 x).cause (result_after freezes limits ss p) z z'
+    (record { two = writers out0 out2 reported0 reported2; frozen_old = frozen; frozen_new = frozen' })) (sym j)
+    (last_end freezes limits ss p old mid new out0 out1 out2 reported0 reported1 reported2 l f.0 f.1 frozen frozen' z z'
+    e u (subst (FreezeUses mid z z' v) i h))
 
 -- the cause is that of the answer, whatever the status
 pub cause_same : (m n : ℕ) (r : Result Bool Stop) → (ending_by m r).cause ≡ (ending_by n r).cause
@@ -399,7 +438,8 @@ pub well_so : (freezes : Bool) (limits : Limits) (ss : List Source) (old mid new
 well_so freezes limits ss old mid new out0 out1 out2 reported0 reported1 reported2 frozen frozen' l f e wrapped v c =
     let p : Progress = after_sources limits ss (progress_of old) in
     let o : p.over ≡ None = ap (λ (x : Progress). x.over) (sym (f.0).progress) ∙ ap how_over f.1 in
-    well_by freezes limits ss p old mid new out0 out1 out2 reported0 reported1 reported2 l f.0 f.1 frozen frozen' freezes refl wrapped v (saved_there limits ss (progress_of old) e o) c
+    well_by freezes limits ss p old mid new out0 out1 out2 reported0 reported1 reported2 l f.0 f.1 frozen frozen'
+    freezes refl wrapped v (saved_there limits ss (progress_of old) e o) c
 
 pub sized_so : (freezes : Bool) (limits : Limits) (ss : List Source) (p : Progress) (old mid new : SessionState)
     (out0 out1 out2 reported0 reported1 reported2 frozen frozen' : Option (List ℕ)) → old.limits ≡ limits
@@ -441,7 +481,8 @@ left_over new causes.OutOfMemory l = l
 abbrev pub StatusIs : Bool → Ending → Type 0
 StatusIs unopened e = (any_missing : Bool) × (e.status ≡ status_of (Ends e.cause) any_missing) × (e.cause ≡ causes.Done → any_missing ≡ unopened)
 
-pub left_status : (new : SessionState) (r : Result Bool Stop) (e : Ending) (unopened : Bool) → IsLeft new r → OnOk r (new.any_missing ≡ (unopened || false)) → e ≡ ending_by (status_at new) r → StatusIs unopened e
+pub left_status : (new : SessionState) (r : Result Bool Stop) (e : Ending) (unopened : Bool) → IsLeft new r
+    → OnOk r (new.any_missing ≡ (unopened || false)) → e ≡ ending_by (status_at new) r → StatusIs unopened e
 left_status new (Ok wrapped) e unopened l m i =
     subst (StatusIs unopened) (sym i)
     (new.any_missing, ap (λ (o : Option Cause). status_of (how_by o) new.any_missing) l, λ h. m ∙ or_false unopened)

@@ -58,7 +58,8 @@ none_yet s out reported = record {
 }
 
 -- the next round of a run that goes on and has saved texts
-by_saved : (go : Progress → Progress) (limits : Limits) (saved : List (List ℕ)) (s : SessionState) → s.limits ≡ limits → s.saved ≡ saved → is_saved saved ≡ true → next_round go s.limits None s.saved (progress_of s) ≡ go (round_of s)
+by_saved : (go : Progress → Progress) (limits : Limits) (saved : List (List ℕ)) (s : SessionState) → s.limits ≡ limits
+    → s.saved ≡ saved → is_saved saved ≡ true → next_round go s.limits None s.saved (progress_of s) ≡ go (round_of s)
 by_saved go limits [] s e f h = cc
 by_saved go limits (x ∷ xs) s e f h =
     ap (λ (saved : List (List ℕ)). next_round go s.limits None saved (progress_of s)) f
@@ -71,7 +72,8 @@ next_is s l e =
     ∙ by_saved (after_wraps s.limits) s.limits s.saved s refl refl e
 
 -- after a round the run goes on from what was written of it
-went_round : (s s' : SessionState) (w : Contents) → IsOpen s → is_saved s.saved ≡ true → Completed s s' (round_of s) w → session_after_wraps s ≡ after ((round_of s).so_far).output ((round_of s).so_far).messages (session_after_wraps s')
+went_round : (s s' : SessionState) (w : Contents) → IsOpen s → is_saved s.saved ≡ true → Completed s s' (round_of s) w
+    → session_after_wraps s ≡ after ((round_of s).so_far).output ((round_of s).so_far).messages (session_after_wraps s')
 went_round s s' w l e f =
     let q : Progress = round_of s in
     next_is s l e
@@ -97,7 +99,8 @@ one_round s0 s s' out0 out out' reported0 reported reported' b l e f =
       steps = λ x y before later h.
           let o : List ℕ = x ++ b.o in
           let m : List ℕ = y ++ b.m in
-          let there : after (x ++ (b.o ++ (q.so_far).output)) (y ++ (b.m ++ (q.so_far).messages)) (progress_of s') ≡ read_saved s0.limits s.saved (after o m (progress_of s)) =
+          let there : after (x ++ (b.o ++ (q.so_far).output)) (y ++ (b.m ++ (q.so_far).messages)) (progress_of s')
+          ≡ read_saved s0.limits s.saved (after o m (progress_of s)) =
           ap (λ (n : List ℕ). after n (y ++ (b.m ++ (q.so_far).messages)) (progress_of s')) (sym (append_assoc x b.o (q.so_far).output))
           ∙ ap (λ (n : List ℕ). after (o ++ (q.so_far).output) n (progress_of s')) (sym (append_assoc y b.m (q.so_far).messages))
           ∙ sym (written_after o m q (progress_of s') f.progress)
@@ -118,7 +121,8 @@ pub round_step : (s0 s : SessionState) (out0 out out' reported0 reported reporte
     → BreaksBy r (Breaks (InSomeRound s0.limits) (progress_of s0) (writers out0 out' reported0 reported'))
 round_step s0 s out0 out out' reported0 reported reported' e q r i j b h = same_breaks Unit Unit e q r _ _ i j all h
   where
-    all : Breaks (IsTurnOfRound s.limits) (progress_of s) (writers out out' reported reported') → Breaks (InSomeRound s0.limits) (progress_of s0) (writers out0 out' reported0 reported')
+    all : Breaks (IsTurnOfRound s.limits) (progress_of s) (writers out out' reported reported')
+        → Breaks (InSomeRound s0.limits) (progress_of s0) (writers out0 out' reported0 reported')
     all h = λ x y out1 reported1 f g.
         let k = h (x ++ b.o) (y ++ b.m) out1 reported1
         (b.output ∙ ap (λ (v : Option (List ℕ)). with_bytes v b.o) f ∙ with_bytes-append out1 x b.o)
@@ -126,19 +130,22 @@ round_step s0 s out0 out out' reported0 reported reported' e q r i j b h = same_
         (k.0, k.1, b.steps x y k.0 k.1 (0, subst (λ (l : Limits). IsTurnOfRound l (after (x ++ b.o) (y ++ b.m) (progress_of s)) k.0 k.1) b.limits k.2), k.3)
 
 -- no text is saved any more
-pub all_rounds : (s0 s : SessionState) (w : Contents) → IsOpen s0 → IsOpen s → Rounding s0 s w → is_saved s.saved ≡ false → WrapsGive (session_after_wraps s0) s0 s w (Ok tt)
+pub all_rounds : (s0 s : SessionState) (w : Contents) → IsOpen s0 → IsOpen s → Rounding s0 s w
+    → is_saved s.saved ≡ false → WrapsGive (session_after_wraps s0) s0 s w (Ok tt)
 all_rounds s0 s w l0 l b e = (
   all_made b.o b.m s0 s w (session_after_wraps s0) l0 l b.limits b.output b.messages (ap (after b.o b.m) (sym (after_is s l (none_is s.saved e))) ∙ sym b.rest),
   tt,
 )
 
 -- a round that ends the run, or breaks off
-round_within : (s0 s : SessionState) (w : Contents) (b : Rounding s0 s w) → IsOpen s → is_saved s.saved ≡ true → Within b.o b.m (round_of s) (session_after_wraps s0)
+round_within : (s0 s : SessionState) (w : Contents) (b : Rounding s0 s w) → IsOpen s → is_saved s.saved ≡ true
+    → Within b.o b.m (round_of s) (session_after_wraps s0)
 round_within s0 s w b l e =
     let q : Progress = round_of s in
     let is : session_after_wraps s0 ≡ after b.o b.m (after_wraps s.limits q) = b.rest ∙ ap (after b.o b.m) (next_is s l e) in
     record {
-      keeps = subst (λ (p : Progress). Extends (after b.o b.m q).so_far p.so_far) (wraps_after b.o b.m s.limits q ∙ sym is) (rounds_keep (suc (s.limits).calls) s.limits (after b.o b.m q));
+      keeps = subst (λ (p : Progress). Extends (after b.o b.m q).so_far p.so_far)
+          (wraps_after b.o b.m s.limits q ∙ sym is) (rounds_keep (suc (s.limits).calls) s.limits (after b.o b.m q));
       over = λ h v. is ∙ ap (after b.o b.m) (over_wraps s.limits q h v);
     }
 
@@ -147,9 +154,13 @@ pub round_stops : (s0 s s' : SessionState) (out0 out out' reported0 reported rep
     → IsOpen s → is_saved s.saved ≡ true → WrapsGive (round_of s) s s' (writers out out' reported reported') q
     → WrapsGive (session_after_wraps s0) s0 s' (writers out0 out' reported0 reported') r
 round_stops s0 s s' out0 out out' reported0 reported reported' e q r f g l0 b l v h =
-    let k : WrapsGive (round_of s) s s' (writers out out' reported reported') (Err e) = subst (WrapsGive (round_of s) s s' (writers out out' reported reported')) f h in
-    subst (WrapsGive (session_after_wraps s0) s0 s' (writers out0 out' reported0 reported')) (sym g)
-    (step_stops b.o b.m (round_of s) (session_after_wraps s0) (round_within s0 s _ b l v) s0 s s' out0 out out' reported0 reported reported' b.output b.messages l0 b.limits e k.0, k.1)
+    let k : WrapsGive (round_of s) s s' (writers out out' reported reported') (Err e) =
+    subst (WrapsGive (round_of s) s s' (writers out out' reported reported')) f h in
+    subst (WrapsGive (session_after_wraps s0) s0 s' (writers out0 out' reported0 reported')) (sym g) (
+      step_stops b.o b.m (round_of s) (session_after_wraps s0) (round_within s0 s _ b l v) s0 s s' out0 out out'
+          reported0 reported reported' b.output b.messages l0 b.limits e k.0,
+      k.1,
+    )
 
 -- how many rounds there may be: a round that saves text makes a call
 abbrev left_by : List (List ℕ) → ℕ → ℕ
@@ -165,11 +176,14 @@ fewer (x ∷ xs) saved' n n' e (inl h) = subst (λ (z : List (List ℕ)). left_b
 fewer (x ∷ xs) [] n n' e (inr h) = omega arith
 fewer (x ∷ xs) (y ∷ ys) n n' e (inr h) = omega arith
 
-fewer_after : (s s' : SessionState) (q : Progress) → is_saved s.saved ≡ true → s'.limits ≡ s.limits → progress_of s' ≡ written q → ((q.so_far).saved ≡ []) ⊎ ((s.limits).calls - (q.so_far).calls < (s.limits).calls - s.calls) → rounds_left s' < rounds_left s
+fewer_after : (s s' : SessionState) (q : Progress) → is_saved s.saved ≡ true → s'.limits ≡ s.limits
+    → progress_of s' ≡ written q → ((q.so_far).saved ≡ [])
+    ⊎ ((s.limits).calls - (q.so_far).calls < (s.limits).calls - s.calls) → rounds_left s' < rounds_left s
 fewer_after s s' q e l f h =
     let c : s'.calls ≡ (q.so_far).calls = ap (λ (p : Progress). (p.so_far).calls) f in
     let v : s'.saved ≡ (q.so_far).saved = ap (λ (p : Progress). (p.so_far).saved) f in
-    let n : (s'.limits).calls - s'.calls ≡ (s.limits).calls - (q.so_far).calls = ap (λ (l : Limits). l.calls - s'.calls) l ∙ ap (λ (k : ℕ). (s.limits).calls - k) c in
+    let n : (s'.limits).calls - s'.calls ≡ (s.limits).calls - (q.so_far).calls =
+    ap (λ (l : Limits). l.calls - s'.calls) l ∙ ap (λ (k : ℕ). (s.limits).calls - k) c in
     fewer s.saved s'.saved ((s.limits).calls - s.calls) ((s'.limits).calls - s'.calls) e
     (⊎_elim (λ k. inl (v ∙ k))
     (λ (k : (s.limits).calls - (q.so_far).calls < (s.limits).calls - s.calls). inr (subst (λ (z : ℕ). z < (s.limits).calls - s.calls) (sym n) k)) h)
@@ -212,7 +226,8 @@ module _ (freezes : Bool) (old mid new : SessionState)
   out_parts x y e h = e ∙ ap (λ o. with_bytes o x) f.output ∙ with_bytes-append out0 (P.so_far).output x ∙ ap (with_bytes out0) h
 
   reported_parts : reported2 ≡ with_bytes reported1 [] → reported2 ≡ with_bytes reported0 (P.so_far).messages
-  reported_parts e = e ∙ ap (λ o. with_bytes o []) f.messages ∙ with_bytes-append reported0 (P.so_far).messages [] ∙ ap (with_bytes reported0) (append-nil (P.so_far).messages)
+  reported_parts e = e ∙ ap (λ o. with_bytes o []) f.messages ∙ with_bytes-append reported0 (P.so_far).messages []
+      ∙ ap (with_bytes reported0) (append-nil (P.so_far).messages)
 
   closed_then : Closed freezes mid new (writers out1 out2 reported1 reported2) → Closed freezes old new Whole
   closed_then k = record {
@@ -224,7 +239,8 @@ module _ (freezes : Bool) (old mid new : SessionState)
     saved = k.saved;
     calls = k.calls ∙ ap (λ (p : Progress). (p.so_far).calls) mid_is;
     ended = goes_on;
-    output = out_parts (closed_output freezes (written P).so_far) _ (k.output ∙ ap (λ (p : Progress). with_bytes out1 (closed_output freezes p.so_far)) mid_is) (closed_parts freezes P);
+    output = out_parts (closed_output freezes (written P).so_far) _
+        (k.output ∙ ap (λ (p : Progress). with_bytes out1 (closed_output freezes p.so_far)) mid_is) (closed_parts freezes P);
     messages = reported_parts (k.messages ∙ ap (λ (p : Progress). with_bytes reported1 (p.so_far).messages) mid_is);
   }
 
@@ -320,7 +336,8 @@ pub uses_then : (old mid new : SessionState) (out0 out1 out2 reported0 reported1
     → FreezeBegan mid (record { two = writers out1 out2 reported1 reported2; frozen_old = frozen; frozen_new = frozen' })
     → FreezeUses old z z' (record { two = writers out0 out2 reported0 reported2; frozen_old = frozen; frozen_new = frozen' }) r
 uses_then old mid new out0 out1 out2 reported0 reported1 reported2 frozen frozen' g none any_missing z z' r e h =
-    subst (λ (x : Result Unit Stop). FreezeUses old z z' (record { two = writers out0 out2 reported0 reported2; frozen_old = frozen; frozen_new = frozen' }) x) (sym e)
+    subst (λ (x : Result Unit Stop). FreezeUses old z z'
+    (record { two = writers out0 out2 reported0 reported2; frozen_old = frozen; frozen_new = frozen' }) x) (sym e)
     (inr (began_then true old mid new out0 out1 out2 reported0 reported1 reported2 g.0 g.1 none any_missing frozen frozen' h))
 
 -- it was not begun
@@ -328,7 +345,8 @@ pub uses_none : {Z : Type 0} → (old : SessionState) (z z' : Z) (w : Three (Opt
 uses_none old z z' w (Err (stops.Ended causes.Write)) h = inl h
 uses_none old z z' w r h = tt
 
-pub uses_without_memory : {Z : Type 0} → (old : SessionState) (z z' : Z) (w : Three (Option (List ℕ))) (r : Result Unit Stop) → r ≡ Err (stops.Ended causes.OutOfMemory) → FreezeUses old z z' w r
+pub uses_without_memory : {Z : Type 0} → (old : SessionState) (z z' : Z) (w : Three (Option (List ℕ)))
+    (r : Result Unit Stop) → r ≡ Err (stops.Ended causes.OutOfMemory) → FreezeUses old z z' w r
 uses_without_memory old z z' w r e = subst (λ (x : Result Unit Stop). FreezeUses old z z' w x) (sym e) tt
 
 pub finish_then : (old mid new : SessionState) (out0 out1 out2 reported0 reported1 reported2 : Option (List ℕ))
@@ -351,22 +369,26 @@ more_by (Some reason) freezes s = []
 more_by None true s = []
 more_by None false s = close s
 
-result_more : (v : Option EndReason) (freezes any_missing : Bool) (r : RunSoFar) → (result_by v freezes [] r any_missing).output ≡ ([] ++ r.output) ++ more_by v freezes r.state
+result_more : (v : Option EndReason) (freezes any_missing : Bool) (r : RunSoFar)
+    → (result_by v freezes [] r any_missing).output ≡ ([] ++ r.output) ++ more_by v freezes r.state
 result_more (Some reason) freezes any_missing r = sym (append-nil r.output)
 result_more None true any_missing r = sym (append-nil r.output)
 result_more None false any_missing r = refl
 
-saved_broke : (freezes : Bool) (old new : SessionState) (w : Contents) (cause : Cause) → IsOpen old → BrokeOff new (session_after_wraps old) w cause → Unfinished freezes old new w cause
+saved_broke : (freezes : Bool) (old new : SessionState) (w : Contents) (cause : Cause) → IsOpen old
+    → BrokeOff new (session_after_wraps old) w cause → Unfinished freezes old new w cause
 saved_broke freezes old new w cause l h =
     let p : Progress = session_after_wraps old in
     record {
       live = l;
       over = h.over;
-      output = begun_after w.out_old w.out_old w.out_new [] (p.so_far).output (more_by p.over freezes (p.so_far).state) _ (with_bytes-nil w.out_old) h.output (result_more p.over freezes p.any_missing p.so_far);
+      output = begun_after w.out_old w.out_old w.out_new [] (p.so_far).output (more_by p.over freezes (p.so_far).state)
+          _ (with_bytes-nil w.out_old) h.output (result_more p.over freezes p.any_missing p.so_far);
       messages = h.messages;
     }
 
-pub saved_ends : (freezes : Bool) (old new : SessionState) (w : Contents) (e : Stop) → IsOpen old → WrapsGive (session_after_wraps old) old new w (Err e) → EndGives freezes old new w (Err e)
+pub saved_ends : (freezes : Bool) (old new : SessionState) (w : Contents) (e : Stop) → IsOpen old
+    → WrapsGive (session_after_wraps old) old new w (Err e) → EndGives freezes old new w (Err e)
 saved_ends freezes old new w stops.Finished l h = absurd h.0
 saved_ends freezes old new w (stops.Ended causes.Done) l h = h.0
 saved_ends freezes old new w (stops.Ended (causes.Frozen x)) l h = h.0
@@ -381,7 +403,8 @@ saved_ends freezes old new w (stops.Ended causes.ExpansionLimit) l h = h.0
 saved_ends freezes old new w (stops.Ended causes.NestingLimit) l h = h.0
 
 -- then nothing is frozen
-spared : (s : SessionState) (two : Contents) (frozen : Option (List ℕ)) (e : Stop) → FrozenGives s (record { two = two; frozen_old = frozen; frozen_new = frozen }) (Err e)
+spared : (s : SessionState) (two : Contents) (frozen : Option (List ℕ)) (e : Stop)
+    → FrozenGives s (record { two = two; frozen_old = frozen; frozen_new = frozen }) (Err e)
 spared s two frozen stops.Finished = refl
 spared s two frozen (stops.Ended causes.Done) = refl
 spared s two frozen (stops.Ended (causes.Frozen x)) = refl
@@ -395,7 +418,8 @@ spared s two frozen (stops.Ended causes.EndInArguments) = refl
 spared s two frozen (stops.Ended causes.ExpansionLimit) = refl
 spared s two frozen (stops.Ended causes.NestingLimit) = refl
 
-pub finish_stops : (old new : SessionState) (w : Contents) (e : Stop) (q r : Result Unit Stop) → q ≡ Err e → r ≡ Err e → IsOpen old → WrapsGive (session_after_wraps old) old new w q → FinishGives old new w r
+pub finish_stops : (old new : SessionState) (w : Contents) (e : Stop) (q r : Result Unit Stop) → q ≡ Err e → r ≡ Err e
+    → IsOpen old → WrapsGive (session_after_wraps old) old new w q → FinishGives old new w r
 finish_stops old new w e q r f g l h =
     subst (FinishGives old new w) (sym g) (saved_ends false old new w e l (subst (WrapsGive (session_after_wraps old) old new w) f h))
 

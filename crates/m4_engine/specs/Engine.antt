@@ -10,14 +10,10 @@ use Rattle.m4_builtins.specs.declared.place.Place.{Place}
 use Rattle.m4_builtins.specs.Messages.{dropped}
 use Rattle.m4_engine.specs.Expansion.{Call, Limits, RunSoFar, Mode, Outside, Collecting, Kept, Expansion, issued}
 use Rattle.m4_state.specs.Definition.{IsDefinition}
-use Rattle.m4_input.specs.declared.token.Token.{Token}
-use Rattle.m4_input.specs.declared.token.Token.TheVariants.{Definition}
 use Rattle.m4_input.specs.Input.{Held}
 use Rattle.m4_engine.specs.Args.{dropped_if_any, with_argument}
 use Rattle.m4_engine.specs.OpenCalls.{Stacked}
 use Rattle.m4_engine.specs.Expand.{with_saved}
-use Rattle.std.specs.List.{AllByRecursion}
-use Rattle.m4_builtins.specs.Args.{IsArg}
 
 -- the warning on dropped definitions, if there were any
 abbrev pub warning_if_dropped : Bool → Place → List ℕ
@@ -81,14 +77,6 @@ put_in (c ∷ cs) x e = record e { open_calls = record c { begun = true; bytes =
 abbrev pub with_text : List ℕ → Engine → Engine
 with_text x e = put_in e.open_calls x e
 
--- a definition added where it goes
-abbrev pub put_token_in : List Call → Def → Engine → Engine
-put_token_in [] d e = e
-put_token_in (c ∷ cs) d e = record e { open_calls = record c { begun = true; tokens = c.tokens ++ d ∷ [] } ∷ cs }
-
-abbrev pub with_token : Def → Engine → Engine
-with_token d e = put_token_in e.open_calls d e
-
 -- one more message
 abbrev pub with_engine_message : List ℕ → Engine → Engine
 with_engine_message x e = record e { messages = e.messages ++ x }
@@ -109,11 +97,6 @@ IsFront (Some d) = IsDefinition d
 pub record IsReady (i : Held) : Type 0 where
   pub sound : i.fault ≡ None
   pub front : IsFront (i.pending).definition
-
--- the definitions that a call has collected are valid
-pub record IsCall (c : Call) : Type 0 where
-  pub done : AllByRecursion IsArg c.done
-  pub tokens : AllByRecursion IsDefinition c.tokens
 
 -- the effects of a call are added where they go; a call is a token of the argument around it
 abbrev pub begun_in : List Call → List Call
@@ -154,11 +137,6 @@ calls_text n = codes "more than " ++ decimal n ++ codes " calls"
 
 abbrev pub nested_text : ℕ → List ℕ
 nested_text n = codes "more than " ++ decimal n ++ codes " nested calls"
-
--- a definition that is a token is valid
-abbrev pub IsToken : Token → Type 0
-IsToken (Definition d) = IsDefinition d
-IsToken t = Unit {0}
 
 -- all buffers were flushed
 abbrev pub after_flush : Engine → Engine

@@ -77,7 +77,8 @@ returns c =
           let number_2 : Some count ≡ number_of d = read_of _ _ _ d w.in-Some-number.is w.in_ok-number-2.ensures.number w.text_of-in-len1-up.ensures in
           let warned_2 : w.number_in-in-len1-up.new.messages.items ≡ warning_on p b ++ warning_on p d =
           warned_of p _ _ (warning_on p b) _ d warned w.in_ok-number-2.ensures.warns w.text_of-in-len1-up.ensures in
-          sym (pushed_with _ c.give_copy.new.self c.if-counts-lt1.messages.items (warning_on p b ++ warning_on p d) _ (at_most count (from_place from (text_of_arg a)))
+          sym (pushed_with _ c.give_copy.new.self c.if-counts-lt1.messages.items (warning_on p b ++ warning_on p d) _
+          (at_most count (from_place from (text_of_arg a)))
           (substr-counted p list counts a b c.in-len2-up.len_at_least c.text-item.is c.from-item.is refl from number d
           count w.in-len1-up.len_at_least w.count-item.is number_2)
           (c.in_ok-give_copy.ensures ∙ ap (λ (f : Effect). record f { push = Some (pushes.Text c.if-counts-lt1.part.now) }) c.requires)

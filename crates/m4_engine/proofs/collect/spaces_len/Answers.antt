@@ -15,6 +15,9 @@ loop-k-preserved c = record {
       let q = c.args.delims.now.quotes.now in
       let d = c.args.delims.now.comments.now in
       let space : slice_index_or x k 0 ≡ 32 = search rules in
-      let lone = lone_space q d 32 refl (c.if-not-may_comment.ensures.starts refl) (c.if-not-may_comment.ensures.may refl) (c.if-not-may_quote.ensures.starts refl) (c.if-not-may_quote.ensures.may refl) in
-      roles_more Blank call q d k x _ (c.loop-k.invariant.bytes call begun) (subst (IsLone q d) (sym space) lone) (search rules) (take_more x k 0 c.loop-k-test.true);
+      let lone = lone_space q d 32 refl (c.if-not-may_comment.ensures.starts refl)
+      (c.if-not-may_comment.ensures.may refl) (c.if-not-may_quote.ensures.starts refl)
+      (c.if-not-may_quote.ensures.may refl) in
+      roles_more Blank call q d k x _ (c.loop-k.invariant.bytes call begun) (subst (IsLone q d) (sym space) lone)
+      (search rules) (take_more x k 0 c.loop-k-test.true);
 }

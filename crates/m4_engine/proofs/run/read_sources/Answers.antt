@@ -29,18 +29,26 @@ sources-init g c = (
 
 pub sources-preserved : goal.sources-preserved
 sources-preserved g c =
-    let k : (v : RunSource g.row.R.Denot) × (c.match-source.sources ≡ slice_set c.sources.sources c.sources.source-index v) × OneRead g.R.ByteSource.script g.R.ByteSource.failures g.O.ByteSink.contents g.M.ByteSink.contents g.O.ByteSink.failures g.M.ByteSink.failures
+    let k : (v : RunSource g.row.R.Denot)
+    × (c.match-source.sources ≡ slice_set c.sources.sources c.sources.source-index v)
+    × OneRead g.R.ByteSource.script g.R.ByteSource.failures g.O.ByteSink.contents g.M.ByteSink.contents
+    g.O.ByteSink.failures g.M.ByteSink.failures
     (slice_index_or c.sources.sources c.sources.source-index c.source-item.result) v c.sources.session c.sources.out c.sources.messages
     c.match-source.session c.match-source.out c.match-source.messages (Ok tt) = elim c.match-source.branch [
       | in-Opened+in-Ok w ↦ (
         sources.Opened w.in-Opened.name w.file-answer.new.reader,
         (search rules),
         read_so g.R.ByteSource.script g.R.ByteSource.failures g.O.ByteSink.contents g.M.ByteSink.contents g.O.ByteSink.failures g.M.ByteSink.failures
-            (slice_index_or c.sources.sources c.sources.source-index c.source-item.result) (sources.Opened w.in-Opened.name w.file-answer.new.reader) (sources.Opened w.in-Opened.name w.file-answer.new.reader) c.sources.session c.sources.out c.sources.messages
-            w.file-answer.new.self c.match-source.session w.file-answer.new.out c.match-source.out w.file-answer.new.messages c.match-source.messages w.file-answer.result (Ok tt)
+            (slice_index_or c.sources.sources c.sources.source-index c.source-item.result)
+            (sources.Opened w.in-Opened.name w.file-answer.new.reader)
+            (sources.Opened w.in-Opened.name w.file-answer.new.reader) c.sources.session c.sources.out c.sources.messages
+            w.file-answer.new.self c.match-source.session w.file-answer.new.out c.match-source.out
+            w.file-answer.new.messages c.match-source.messages w.file-answer.result (Ok tt)
             refl (search rules) (search rules) (search rules) (sym c.in_ok-answer.was ∙ w.answer-is)
             (file_read g.R.ByteSource.script g.R.ByteSource.failures g.O.ByteSink.contents g.M.ByteSink.contents g.O.ByteSink.failures g.M.ByteSink.failures
-            w.in-Ok.name w.in-Opened.reader w.file-answer.new.reader (slice_index_or c.sources.sources c.sources.source-index c.source-item.result) (sources.Opened w.in-Opened.name w.file-answer.new.reader) c.sources.session c.sources.out c.sources.messages
+            w.in-Ok.name w.in-Opened.reader w.file-answer.new.reader
+            (slice_index_or c.sources.sources c.sources.source-index c.source-item.result)
+            (sources.Opened w.in-Opened.name w.file-answer.new.reader) c.sources.session c.sources.out c.sources.messages
             w.file-answer.new.self w.file-answer.new.out w.file-answer.new.messages w.file-answer.result (search rules) (search rules)
             c.sources.invariant.0 w.file-answer.ensures.gives w.file-answer.ensures.order w.file-answer.ensures.read
             w.file-answer.ensures.write w.file-answer.ensures.any_missing),
@@ -49,11 +57,15 @@ sources-preserved g c =
         sources.Unopened w.in-Unopened.name,
         (search rules),
         read_so g.R.ByteSource.script g.R.ByteSource.failures g.O.ByteSink.contents g.M.ByteSink.contents g.O.ByteSink.failures g.M.ByteSink.failures
-            (slice_index_or c.sources.sources c.sources.source-index c.source-item.result) (sources.Unopened w.in-Unopened.name) (sources.Unopened w.in-Unopened.name) c.sources.session c.sources.out c.sources.messages
-            w.missing-answer.new.self c.match-source.session c.sources.out c.match-source.out w.missing-answer.new.messages c.match-source.messages w.missing-answer.result (Ok tt)
+            (slice_index_or c.sources.sources c.sources.source-index c.source-item.result)
+            (sources.Unopened w.in-Unopened.name) (sources.Unopened w.in-Unopened.name) c.sources.session
+            c.sources.out c.sources.messages
+            w.missing-answer.new.self c.match-source.session c.sources.out c.match-source.out
+            w.missing-answer.new.messages c.match-source.messages w.missing-answer.result (Ok tt)
             refl (search rules) (search rules) (search rules) (sym c.in_ok-answer.was ∙ w.answer-is)
             (missing_read g.R.ByteSource.script g.R.ByteSource.failures g.O.ByteSink.contents g.M.ByteSink.contents g.O.ByteSink.failures g.M.ByteSink.failures
-            w.as_slice.result.now (slice_index_or c.sources.sources c.sources.source-index c.source-item.result) (sources.Unopened w.in-Unopened.name) c.sources.session c.sources.out c.sources.messages
+            w.as_slice.result.now (slice_index_or c.sources.sources c.sources.source-index c.source-item.result)
+            (sources.Unopened w.in-Unopened.name) c.sources.session c.sources.out c.sources.messages
             w.missing-answer.new.self w.missing-answer.new.messages w.missing-answer.result (search rules) (search rules)
             c.sources.invariant.0 w.missing-answer.ensures.gives w.missing-answer.ensures.write w.missing-answer.ensures.any_missing),
       )
@@ -62,30 +74,49 @@ sources-preserved g c =
       k.2.left.1,
       rest_kept c.sources.sources c.args.sources.now c.sources.source-index k.0 c.sources.invariant.1,
       (k.2.write.0 ∙ c.sources.invariant.2.0, k.2.write.1 ∙ c.sources.invariant.2.1),
-      pair_item (ConsumesOnly g.R.ByteSource.script) c.sources.source-index c.sources.sources c.args.sources.now c.source-item.result k.0 c.sources.invariant.3 c.sources.invariant.1 (search rules) k.2.reads.taken,
+      pair_item (ConsumesOnly g.R.ByteSource.script) c.sources.source-index c.sources.sources c.args.sources.now
+          c.source-item.result k.0 c.sources.invariant.3 c.sources.invariant.1 (search rules) k.2.reads.taken,
       λ ss e.
-          let t = item g.R.ByteSource.script c.sources.source-index c.sources.sources c.args.sources.now c.source-item.result k.0 ss c.sources.invariant.1 (search rules) e in
-          one_read ss c.sources.source-index (c.sources.source-index + 1) c.args.session.now c.sources.session c.match-source.session t.source _ _ _ _ _ _ (c.sources.invariant.4 ss t.first) t.there ((k.2.writes t.source t.describes).goes).0,
-      pair_item (is_sound g.R.ByteSource.failures) c.sources.source-index c.sources.sources c.args.sources.now c.source-item.result k.0 c.sources.invariant.5 c.sources.invariant.1 (search rules) k.2.reads.failed,
-      missed_on c.sources.source-index c.sources.sources c.args.sources.now c.source-item.result c.sources.session.any_missing c.match-source.session.any_missing _ c.sources.invariant.1 (search rules) k.2.marks.read c.sources.invariant.6,
-      one_more_read g.R.ByteSource.script c.sources.source-index c.sources.sources c.args.sources.now c.source-item.result k.0 c.args.session.now c.sources.session c.match-source.session _ _ _ _ _ _ c.sources.invariant.1 (search rules) c.sources.invariant.7 k.2.reads.reached,
-      begun_on c.sources.source-index c.sources.sources c.args.sources.now c.source-item.result c.sources.session.any_missing c.match-source.session.any_missing _ c.sources.invariant.1 (search rules) k.2.marks.read c.sources.invariant.8,
+          let t = item g.R.ByteSource.script c.sources.source-index c.sources.sources c.args.sources.now
+          c.source-item.result k.0 ss c.sources.invariant.1 (search rules) e in
+          one_read ss c.sources.source-index (c.sources.source-index + 1) c.args.session.now c.sources.session
+          c.match-source.session t.source _ _ _ _ _ _ (c.sources.invariant.4 ss t.first) t.there
+          ((k.2.writes t.source t.describes).goes).0,
+      pair_item (is_sound g.R.ByteSource.failures) c.sources.source-index c.sources.sources c.args.sources.now
+          c.source-item.result k.0 c.sources.invariant.5 c.sources.invariant.1 (search rules) k.2.reads.failed,
+      missed_on c.sources.source-index c.sources.sources c.args.sources.now c.source-item.result
+          c.sources.session.any_missing c.match-source.session.any_missing _ c.sources.invariant.1 (search rules)
+          k.2.marks.read c.sources.invariant.6,
+      one_more_read g.R.ByteSource.script c.sources.source-index c.sources.sources c.args.sources.now
+          c.source-item.result k.0 c.args.session.now c.sources.session c.match-source.session _ _ _ _ _ _
+          c.sources.invariant.1 (search rules) c.sources.invariant.7 k.2.reads.reached,
+      begun_on c.sources.source-index c.sources.sources c.args.sources.now c.source-item.result
+          c.sources.session.any_missing c.match-source.session.any_missing _ c.sources.invariant.1 (search rules)
+          k.2.marks.read c.sources.invariant.8,
     )
 
 pub returns-in_err-answer : goal.returns-in_err-answer
 returns-in_err-answer g c =
-    let k : (v : RunSource g.row.R.Denot) × (c.match-source.sources ≡ slice_set c.sources.sources c.sources.source-index v) × OneRead g.R.ByteSource.script g.R.ByteSource.failures g.O.ByteSink.contents g.M.ByteSink.contents g.O.ByteSink.failures g.M.ByteSink.failures
+    let k : (v : RunSource g.row.R.Denot)
+    × (c.match-source.sources ≡ slice_set c.sources.sources c.sources.source-index v)
+    × OneRead g.R.ByteSource.script g.R.ByteSource.failures g.O.ByteSink.contents g.M.ByteSink.contents
+    g.O.ByteSink.failures g.M.ByteSink.failures
     (slice_index_or c.sources.sources c.sources.source-index c.source-item.result) v c.sources.session c.sources.out c.sources.messages
     c.match-source.session c.match-source.out c.match-source.messages c.match-source.answer = elim c.match-source.branch [
       | in-Opened+in-Ok w ↦ (
         sources.Opened w.in-Opened.name w.file-answer.new.reader,
         (search rules),
         read_so g.R.ByteSource.script g.R.ByteSource.failures g.O.ByteSink.contents g.M.ByteSink.contents g.O.ByteSink.failures g.M.ByteSink.failures
-            (slice_index_or c.sources.sources c.sources.source-index c.source-item.result) (sources.Opened w.in-Opened.name w.file-answer.new.reader) (sources.Opened w.in-Opened.name w.file-answer.new.reader) c.sources.session c.sources.out c.sources.messages
-            w.file-answer.new.self c.match-source.session w.file-answer.new.out c.match-source.out w.file-answer.new.messages c.match-source.messages w.file-answer.result c.match-source.answer
+            (slice_index_or c.sources.sources c.sources.source-index c.source-item.result)
+            (sources.Opened w.in-Opened.name w.file-answer.new.reader)
+            (sources.Opened w.in-Opened.name w.file-answer.new.reader) c.sources.session c.sources.out c.sources.messages
+            w.file-answer.new.self c.match-source.session w.file-answer.new.out c.match-source.out
+            w.file-answer.new.messages c.match-source.messages w.file-answer.result c.match-source.answer
             refl (search rules) (search rules) (search rules) (search rules)
             (file_read g.R.ByteSource.script g.R.ByteSource.failures g.O.ByteSink.contents g.M.ByteSink.contents g.O.ByteSink.failures g.M.ByteSink.failures
-            w.in-Ok.name w.in-Opened.reader w.file-answer.new.reader (slice_index_or c.sources.sources c.sources.source-index c.source-item.result) (sources.Opened w.in-Opened.name w.file-answer.new.reader) c.sources.session c.sources.out c.sources.messages
+            w.in-Ok.name w.in-Opened.reader w.file-answer.new.reader
+            (slice_index_or c.sources.sources c.sources.source-index c.source-item.result)
+            (sources.Opened w.in-Opened.name w.file-answer.new.reader) c.sources.session c.sources.out c.sources.messages
             w.file-answer.new.self w.file-answer.new.out w.file-answer.new.messages w.file-answer.result (search rules) (search rules)
             c.sources.invariant.0 w.file-answer.ensures.gives w.file-answer.ensures.order w.file-answer.ensures.read
             w.file-answer.ensures.write w.file-answer.ensures.any_missing),
@@ -94,11 +125,15 @@ returns-in_err-answer g c =
         sources.Unopened w.in-Unopened.name,
         (search rules),
         read_so g.R.ByteSource.script g.R.ByteSource.failures g.O.ByteSink.contents g.M.ByteSink.contents g.O.ByteSink.failures g.M.ByteSink.failures
-            (slice_index_or c.sources.sources c.sources.source-index c.source-item.result) (sources.Unopened w.in-Unopened.name) (sources.Unopened w.in-Unopened.name) c.sources.session c.sources.out c.sources.messages
-            w.missing-answer.new.self c.match-source.session c.sources.out c.match-source.out w.missing-answer.new.messages c.match-source.messages w.missing-answer.result c.match-source.answer
+            (slice_index_or c.sources.sources c.sources.source-index c.source-item.result)
+            (sources.Unopened w.in-Unopened.name) (sources.Unopened w.in-Unopened.name) c.sources.session
+            c.sources.out c.sources.messages
+            w.missing-answer.new.self c.match-source.session c.sources.out c.match-source.out
+            w.missing-answer.new.messages c.match-source.messages w.missing-answer.result c.match-source.answer
             refl (search rules) (search rules) (search rules) (search rules)
             (missing_read g.R.ByteSource.script g.R.ByteSource.failures g.O.ByteSink.contents g.M.ByteSink.contents g.O.ByteSink.failures g.M.ByteSink.failures
-            w.as_slice.result.now (slice_index_or c.sources.sources c.sources.source-index c.source-item.result) (sources.Unopened w.in-Unopened.name) c.sources.session c.sources.out c.sources.messages
+            w.as_slice.result.now (slice_index_or c.sources.sources c.sources.source-index c.source-item.result)
+            (sources.Unopened w.in-Unopened.name) c.sources.session c.sources.out c.sources.messages
             w.missing-answer.new.self w.missing-answer.new.messages w.missing-answer.result (search rules) (search rules)
             c.sources.invariant.0 w.missing-answer.ensures.gives w.missing-answer.ensures.write w.missing-answer.ensures.any_missing),
       )
@@ -106,7 +141,9 @@ returns-in_err-answer g c =
     rw k.1 (record {
       left = search rules;
       writes = λ ss e.
-          let t = item g.R.ByteSource.script c.sources.source-index c.sources.sources c.args.sources.now c.source-item.result k.0 ss c.sources.invariant.1 (search rules) (first_for g.R.ByteSource.script (c.sources.source-index + 1) c.args.sources.now _ ss e) in
+          let t = item g.R.ByteSource.script c.sources.source-index c.sources.sources c.args.sources.now
+          c.source-item.result k.0 ss c.sources.invariant.1 (search rules)
+          (first_for g.R.ByteSource.script (c.sources.source-index + 1) c.args.sources.now _ ss e) in
           record {
             goes = stopped_so ss c.sources.source-index (c.sources.source-index + 1) c.args.session.now c.sources.session
                 c.match-source.session t.source _ _ _ _ _ _ c.in_err-answer.field-0.0 c.match-source.answer c.from_residual.result
@@ -125,12 +162,16 @@ returns-in_err-answer g c =
             c.args.sources.now c.source-item.result k.0 c.in_err-answer.field-0.0 c.match-source.answer
             c.from_residual.result (search rules) (search rules) c.sources.invariant.5 c.sources.invariant.1 (search rules)
             k.2.reads.failed;
-        taken = pair_item (ConsumesOnly g.R.ByteSource.script) c.sources.source-index c.sources.sources c.args.sources.now c.source-item.result k.0 c.sources.invariant.3 c.sources.invariant.1 (search rules) k.2.reads.taken;
+        taken = pair_item (ConsumesOnly g.R.ByteSource.script) c.sources.source-index c.sources.sources
+            c.args.sources.now c.source-item.result k.0 c.sources.invariant.3 c.sources.invariant.1 (search rules)
+            k.2.reads.taken;
       };
       marks = record {
         read = search rules;
         exited = λ code e n.
-            exited_there c.sources.source-index c.sources.sources c.args.sources.now c.source-item.result k.0 c.sources.session.any_missing c.match-source.session.any_missing _ c.sources.invariant.1 (search rules) c.sources.invariant.8
+            exited_there c.sources.source-index c.sources.sources c.args.sources.now c.source-item.result k.0
+            c.sources.session.any_missing c.match-source.session.any_missing _ c.sources.invariant.1 (search rules)
+            c.sources.invariant.8
             (k.2.marks.exited code (same_stop c.in_err-answer.field-0.0 _ c.match-source.answer c.from_residual.result (search rules) (search rules) e)) n;
       };
       write = search rules;
@@ -139,15 +180,19 @@ returns-in_err-answer g c =
 pub returns-in_default : goal.returns-in_default
 returns-in_default g c =
     let k : OneRead g.R.ByteSource.script g.R.ByteSource.failures g.O.ByteSink.contents g.M.ByteSink.contents g.O.ByteSink.failures g.M.ByteSink.failures
-    (slice_index_or c.sources.sources c.sources.source-index c.source-item.result) (sources.Opened c.in-Opened.name c.in-Opened.reader) c.sources.session c.sources.out c.sources.messages
+    (slice_index_or c.sources.sources c.sources.source-index c.source-item.result)
+    (sources.Opened c.in-Opened.name c.in-Opened.reader) c.sources.session c.sources.out c.sources.messages
     c.settle.new.self c.sources.out c.sources.messages c.settle.result =
     unread g.R.ByteSource.script g.R.ByteSource.failures g.O.ByteSink.contents g.M.ByteSink.contents g.O.ByteSink.failures g.M.ByteSink.failures
-    c.in-Opened.name c.in-Opened.reader (slice_index_or c.sources.sources c.sources.source-index c.source-item.result) c.sources.session c.sources.out c.sources.messages c.settle.new.self c.settle.result
+    c.in-Opened.name c.in-Opened.reader (slice_index_or c.sources.sources c.sources.source-index c.source-item.result)
+    c.sources.session c.sources.out c.sources.messages c.settle.new.self c.settle.result
     (search rules) c.sources.invariant.0 c.settle.ensures.answer (search rules) in
     record {
       left = k.left;
       writes = λ ss e.
-          let t = item g.R.ByteSource.script c.sources.source-index c.sources.sources c.args.sources.now c.source-item.result (sources.Opened c.in-Opened.name c.in-Opened.reader) ss c.sources.invariant.1 (search rules) (first_for g.R.ByteSource.script (c.sources.source-index + 1) c.args.sources.now _ ss e) in
+          let t = item g.R.ByteSource.script c.sources.source-index c.sources.sources c.args.sources.now
+          c.source-item.result (sources.Opened c.in-Opened.name c.in-Opened.reader) ss c.sources.invariant.1
+          (search rules) (first_for g.R.ByteSource.script (c.sources.source-index + 1) c.args.sources.now _ ss e) in
           record {
             goes = stopped_so ss c.sources.source-index (c.sources.source-index + 1) c.args.session.now c.sources.session
                 c.settle.new.self t.source _ _ _ _ _ _ (stops.Ended causes.OutOfMemory) c.settle.result c.settle.result
@@ -166,12 +211,16 @@ returns-in_default g c =
             c.args.sources.now c.source-item.result (sources.Opened c.in-Opened.name c.in-Opened.reader) (stops.Ended causes.OutOfMemory) c.settle.result
             c.settle.result (search rules) (search rules) c.sources.invariant.5 c.sources.invariant.1 (search rules)
             k.reads.failed;
-        taken = pair_item (ConsumesOnly g.R.ByteSource.script) c.sources.source-index c.sources.sources c.args.sources.now c.source-item.result (sources.Opened c.in-Opened.name c.in-Opened.reader) c.sources.invariant.3 c.sources.invariant.1 (search rules) k.reads.taken;
+        taken = pair_item (ConsumesOnly g.R.ByteSource.script) c.sources.source-index c.sources.sources
+            c.args.sources.now c.source-item.result (sources.Opened c.in-Opened.name c.in-Opened.reader)
+            c.sources.invariant.3 c.sources.invariant.1 (search rules) k.reads.taken;
       };
       marks = record {
         read = search rules;
         exited = λ code e n.
-            exited_there c.sources.source-index c.sources.sources c.args.sources.now c.source-item.result (sources.Opened c.in-Opened.name c.in-Opened.reader) c.sources.session.any_missing c.settle.new.self.any_missing _ c.sources.invariant.1 (search rules) c.sources.invariant.8
+            exited_there c.sources.source-index c.sources.sources c.args.sources.now c.source-item.result
+            (sources.Opened c.in-Opened.name c.in-Opened.reader) c.sources.session.any_missing
+            c.settle.new.self.any_missing _ c.sources.invariant.1 (search rules) c.sources.invariant.8
             (k.marks.exited code (same_stop (stops.Ended causes.OutOfMemory) _ c.settle.result c.settle.result (search rules) (search rules) e)) n;
       };
       write = search rules;
@@ -189,10 +238,17 @@ returns-clause-writes g c = λ ss e. record {
 
 pub returns-clause-reads : goal.returns-clause-reads
 returns-clause-reads g c = record {
-  reached = all_read_so g.R.ByteSource.script c.sources.source-index c.sources.sources c.args.sources.now c.args.session.now c.sources.session _ c.sources.invariant.1 (search rules) c.requires c.sources.invariant.0 c.sources.invariant.7;
+  reached = all_read_so g.R.ByteSource.script c.sources.source-index c.sources.sources c.args.sources.now
+      c.args.session.now c.sources.session _ c.sources.invariant.1 (search rules) c.requires c.sources.invariant.0
+      c.sources.invariant.7;
   failed = search rules;
   taken = search rules;
 }
 
 pub returns-clause-marks : goal.returns-clause-marks
-returns-clause-marks g c = record { read = missed_last c.sources.source-index c.sources.sources c.args.sources.now c.sources.session.any_missing _ c.sources.invariant.1 (search rules) c.sources.invariant.6; exited = search rules }
+returns-clause-marks g c = record {
+  read =
+      missed_last c.sources.source-index c.sources.sources c.args.sources.now c.sources.session.any_missing _
+      c.sources.invariant.1 (search rules) c.sources.invariant.6;
+  exited = search rules;
+}

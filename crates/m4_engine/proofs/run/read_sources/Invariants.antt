@@ -18,5 +18,6 @@ invariant-sources g l =
     → Between ss l.source-index l.fn.session l.session (both g.O.ByteSink.contents g.M.ByteSink.contents l.fn.out l.out l.fn.messages l.messages))
     × AllPairs (is_sound g.R.ByteSource.failures) l.fn.sources l.sources
     × ((any_unopened (drop l.source-index l.fn.sources) || l.session.any_missing) ≡ (any_unopened l.fn.sources || l.fn.session.any_missing))
-    × ReadSoFar g.R.ByteSource.script l.source-index l.fn.sources l.sources l.fn.session l.session (both g.O.ByteSink.contents g.M.ByteSink.contents l.fn.out l.out l.fn.messages l.messages)
+    × ReadSoFar g.R.ByteSource.script l.source-index l.fn.sources l.sources l.fn.session l.session
+    (both g.O.ByteSink.contents g.M.ByteSink.contents l.fn.out l.out l.fn.messages l.messages)
     × (l.session.any_missing ≡ (any_unopened (take l.source-index l.fn.sources) || l.fn.session.any_missing))

@@ -19,7 +19,8 @@ returns-in_err-read_sources-clause-writes g c = λ ss s. record {
       c.args.session.now c.read_sources.new.session _ c.in_err-read_sources.field-0.0 c.read_sources.result
       c.from_residual.result (search rules) (search rules) c.read_sources.ensures.left.0 refl
       (c.read_sources.ensures.writes ss s).goes;
-  order = same_breaks Unit Bool c.in_err-read_sources.field-0.0 c.read_sources.result c.from_residual.result _ _ (search rules) (search rules) (sources_step c.args.session.now.limits ss _ _) (c.read_sources.ensures.writes ss s).order;
+  order = same_breaks Unit Bool c.in_err-read_sources.field-0.0 c.read_sources.result c.from_residual.result _ _
+      (search rules) (search rules) (sources_step c.args.session.now.limits ss _ _) (c.read_sources.ensures.writes ss s).order;
 }
 
 pub returns-in_err-read_sources-clause-frozen : goal.returns-in_err-read_sources-clause-frozen
@@ -36,7 +37,9 @@ returns-in_err-read_sources-clause-reads g c = record {
       c.read_sources.new.sources c.args.session.now c.read_sources.new.session _ c.in_err-read_sources.field-0.0
       c.read_sources.result c.from_residual.result (search rules) (search rules) c.read_sources.ensures.left.0
       c.read_sources.ensures.reads.reached;
-  failed = same_fails g.R.ByteSource.script g.R.ByteSource.failures c.args.sources.now c.read_sources.new.sources c.in_err-read_sources.field-0.0 c.read_sources.result c.from_residual.result (search rules) (search rules) c.read_sources.ensures.reads.failed;
+  failed = same_fails g.R.ByteSource.script g.R.ByteSource.failures c.args.sources.now c.read_sources.new.sources
+      c.in_err-read_sources.field-0.0 c.read_sources.result c.from_residual.result (search rules) (search rules)
+      c.read_sources.ensures.reads.failed;
   taken = search rules;
 }
 
@@ -44,7 +47,9 @@ pub returns-in_err-read_sources-clause-marks : goal.returns-in_err-read_sources-
 returns-in_err-read_sources-clause-marks g c = record {
   read = search rules;
   exited = λ code e n.
-      c.read_sources.ensures.marks.exited code (same_stop c.in_err-read_sources.field-0.0 _ c.read_sources.result c.from_residual.result (search rules) (search rules) e) n;
+      c.read_sources.ensures.marks.exited code
+      (same_stop c.in_err-read_sources.field-0.0 _ c.read_sources.result c.from_residual.result (search rules)
+      (search rules) e) n;
 }
 
 -- the end of the run is broken off
@@ -56,17 +61,22 @@ returns-in_err-closed g c =
       | then-freezes w ↦ closes_so
           g.O.ByteSink.contents g.M.ByteSink.contents g.Z.ByteSink.contents g.O.ByteSink.failures g.M.ByteSink.failures g.Z.ByteSink.failures
           c.args.freezes c.read_sources.new.session c.read_sources.new.out c.read_sources.new.messages c.args.freeze_to.now
-          w.freeze-closed.new.self c.if-freezes.session w.freeze-closed.new.out c.if-freezes.out w.freeze-closed.new.messages c.if-freezes.messages w.freeze-closed.new.freeze_to c.if-freezes.freeze_to w.freeze-closed.result c.if-freezes.closed
+          w.freeze-closed.new.self c.if-freezes.session w.freeze-closed.new.out c.if-freezes.out
+          w.freeze-closed.new.messages c.if-freezes.messages w.freeze-closed.new.freeze_to c.if-freezes.freeze_to
+          w.freeze-closed.result c.if-freezes.closed
           (search rules) (search rules) (search rules) (search rules) (search rules)
           (freeze_closes
           g.O.ByteSink.contents g.M.ByteSink.contents g.Z.ByteSink.contents g.O.ByteSink.failures g.M.ByteSink.failures g.Z.ByteSink.failures
           c.args.freezes c.read_sources.new.session c.read_sources.new.out c.read_sources.new.messages c.args.freeze_to.now
           w.freeze-closed.new.self w.freeze-closed.new.out w.freeze-closed.new.messages w.freeze-closed.new.freeze_to w.freeze-closed.result (search rules)
-          w.freeze-closed.ensures.gives w.freeze-closed.ensures.order w.freeze-closed.ensures.any_missing w.freeze-closed.ensures.write w.freeze-closed.ensures.last)
+          w.freeze-closed.ensures.gives w.freeze-closed.ensures.order w.freeze-closed.ensures.any_missing
+          w.freeze-closed.ensures.write w.freeze-closed.ensures.last)
       | else-freezes w ↦ closes_so
           g.O.ByteSink.contents g.M.ByteSink.contents g.Z.ByteSink.contents g.O.ByteSink.failures g.M.ByteSink.failures g.Z.ByteSink.failures
           c.args.freezes c.read_sources.new.session c.read_sources.new.out c.read_sources.new.messages c.args.freeze_to.now
-          w.finish-closed.new.self c.if-freezes.session w.finish-closed.new.out c.if-freezes.out w.finish-closed.new.messages c.if-freezes.messages c.args.freeze_to.now c.if-freezes.freeze_to w.finish-closed.result c.if-freezes.closed
+          w.finish-closed.new.self c.if-freezes.session w.finish-closed.new.out c.if-freezes.out
+          w.finish-closed.new.messages c.if-freezes.messages c.args.freeze_to.now c.if-freezes.freeze_to
+          w.finish-closed.result c.if-freezes.closed
           (search rules) (search rules) (search rules) (search rules) (search rules)
           (finish_closes
           g.O.ByteSink.contents g.M.ByteSink.contents g.Z.ByteSink.contents g.O.ByteSink.failures g.M.ByteSink.failures g.Z.ByteSink.failures
@@ -75,7 +85,9 @@ returns-in_err-closed g c =
           w.finish-closed.ensures.gives w.finish-closed.ensures.order w.finish-closed.ensures.any_missing w.finish-closed.ensures.write)
     ] in
     record {
-      left = close_left c.args.freezes c.read_sources.new.session c.if-freezes.session _ c.in_err-closed.field-0.0 c.if-freezes.closed c.from_residual-in_err-closed.result (search rules) (search rules) c.in_ok-read_sources.ensures.left.1 k.gives;
+      left = close_left c.args.freezes c.read_sources.new.session c.if-freezes.session _ c.in_err-closed.field-0.0
+          c.if-freezes.closed c.from_residual-in_err-closed.result (search rules) (search rules)
+          c.in_ok-read_sources.ensures.left.1 k.gives;
       writes = λ ss s. record {
         gives = late_so c.args.freezes c.args.session.now.limits ss
             (after_sources c.args.session.now.limits ss (progress_of c.args.session.now)) c.args.session.now
@@ -107,7 +119,9 @@ returns-in_err-closed g c =
       marks = record {
         read = search rules;
         exited = λ code e n.
-            exited_late c.args.sources.now c.read_sources.new.sources c.read_sources.new.session.any_missing c.if-freezes.session.any_missing c.args.session.now.any_missing c.in_ok-read_sources.ensures.marks.read k.any_missing n;
+            exited_late c.args.sources.now c.read_sources.new.sources c.read_sources.new.session.any_missing
+            c.if-freezes.session.any_missing c.args.session.now.any_missing c.in_ok-read_sources.ensures.marks.read
+            k.any_missing n;
       };
       writers = uses_so c.args.freezes _ _ _ _ _ _ _ _ _ _ _ _ _ _ c.in_err-closed.field-0.0 c.if-freezes.closed
           c.from_residual-in_err-closed.result c.in_ok-read_sources.ensures.write.0 c.in_ok-read_sources.ensures.write.1
@@ -123,17 +137,22 @@ returns g c =
       | then-freezes w ↦ closes_so
           g.O.ByteSink.contents g.M.ByteSink.contents g.Z.ByteSink.contents g.O.ByteSink.failures g.M.ByteSink.failures g.Z.ByteSink.failures
           c.args.freezes c.read_sources.new.session c.read_sources.new.out c.read_sources.new.messages c.args.freeze_to.now
-          w.freeze-closed.new.self c.if-freezes.session w.freeze-closed.new.out c.if-freezes.out w.freeze-closed.new.messages c.if-freezes.messages w.freeze-closed.new.freeze_to c.if-freezes.freeze_to w.freeze-closed.result (Ok tt)
+          w.freeze-closed.new.self c.if-freezes.session w.freeze-closed.new.out c.if-freezes.out
+          w.freeze-closed.new.messages c.if-freezes.messages w.freeze-closed.new.freeze_to c.if-freezes.freeze_to
+          w.freeze-closed.result (Ok tt)
           (search rules) (search rules) (search rules) (search rules) (sym c.in_ok-closed.was ∙ w.closed-is)
           (freeze_closes
           g.O.ByteSink.contents g.M.ByteSink.contents g.Z.ByteSink.contents g.O.ByteSink.failures g.M.ByteSink.failures g.Z.ByteSink.failures
           c.args.freezes c.read_sources.new.session c.read_sources.new.out c.read_sources.new.messages c.args.freeze_to.now
           w.freeze-closed.new.self w.freeze-closed.new.out w.freeze-closed.new.messages w.freeze-closed.new.freeze_to w.freeze-closed.result (search rules)
-          w.freeze-closed.ensures.gives w.freeze-closed.ensures.order w.freeze-closed.ensures.any_missing w.freeze-closed.ensures.write w.freeze-closed.ensures.last)
+          w.freeze-closed.ensures.gives w.freeze-closed.ensures.order w.freeze-closed.ensures.any_missing
+          w.freeze-closed.ensures.write w.freeze-closed.ensures.last)
       | else-freezes w ↦ closes_so
           g.O.ByteSink.contents g.M.ByteSink.contents g.Z.ByteSink.contents g.O.ByteSink.failures g.M.ByteSink.failures g.Z.ByteSink.failures
           c.args.freezes c.read_sources.new.session c.read_sources.new.out c.read_sources.new.messages c.args.freeze_to.now
-          w.finish-closed.new.self c.if-freezes.session w.finish-closed.new.out c.if-freezes.out w.finish-closed.new.messages c.if-freezes.messages c.args.freeze_to.now c.if-freezes.freeze_to w.finish-closed.result (Ok tt)
+          w.finish-closed.new.self c.if-freezes.session w.finish-closed.new.out c.if-freezes.out
+          w.finish-closed.new.messages c.if-freezes.messages c.args.freeze_to.now c.if-freezes.freeze_to
+          w.finish-closed.result (Ok tt)
           (search rules) (search rules) (search rules) (search rules) (sym c.in_ok-closed.was ∙ w.closed-is)
           (finish_closes
           g.O.ByteSink.contents g.M.ByteSink.contents g.Z.ByteSink.contents g.O.ByteSink.failures g.M.ByteSink.failures g.Z.ByteSink.failures
@@ -144,12 +163,15 @@ returns g c =
     record {
       left = search rules;
       writes = λ ss s. record {
-        gives = well_so c.args.freezes c.args.session.now.limits ss c.args.session.now c.read_sources.new.session c.if-freezes.session _ _ _ _ _ _ _ _ refl (c.in_ok-read_sources.ensures.writes ss s).goes
+        gives = well_so c.args.freezes c.args.session.now.limits ss c.args.session.now c.read_sources.new.session
+            c.if-freezes.session _ _ _ _ _ _ _ _ refl (c.in_ok-read_sources.ensures.writes ss s).goes
             c.requires.unsaved c.wrapped-wrapped.result c.wrapped-wrapped.ensures k.gives;
         order = search rules;
       };
       frozen = λ ss s. record {
-        sized = sized_so c.args.freezes c.args.session.now.limits ss (after_sources c.args.session.now.limits ss (progress_of c.args.session.now)) c.args.session.now c.read_sources.new.session
+        sized = sized_so c.args.freezes c.args.session.now.limits ss
+            (after_sources c.args.session.now.limits ss (progress_of c.args.session.now)) c.args.session.now
+            c.read_sources.new.session
             c.if-freezes.session _ _ _ _ _ _ _ _ refl (c.in_ok-read_sources.ensures.writes ss s).goes k.gives;
       };
       last = λ ss s. tt;

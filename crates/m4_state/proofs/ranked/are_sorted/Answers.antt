@@ -27,7 +27,8 @@ loop-k-preserved c =
           (omega (arith, c.if-rank-last.false, w.if-rank-last-2.false))
     ] in
     let here : (d : Ranked) → slice_index_or run k d ≡ slice_index_or run k none = λ d. get_or_default run k d none (omega (arith, c.loop-k-test.true)) in
-    let last : (d : Ranked) → slice_index_or run (k - 1) d ≡ slice_index_or run (k - 1) none = λ d. get_or_default run (k - 1) d none (omega (arith, c.loop-k-test.true)) in
+    let last : (d : Ranked) → slice_index_or run (k - 1) d ≡ slice_index_or run (k - 1) none =
+    λ d. get_or_default run (k - 1) d none (omega (arith, c.loop-k-test.true)) in
     record {
       begun = omega arith;
       within = omega (arith, c.loop-k-test.true);

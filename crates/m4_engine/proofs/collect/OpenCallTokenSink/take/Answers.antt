@@ -41,7 +41,9 @@ returns-then-role-eq4-clause-takes c = λ s next m first q d ahead before.
     let h = subst (λ (a : Lookahead). IsAhead a next s m y) c.in-Byte.is ahead in
     list_on s m c.args.at _ first call new x y before refl
     (byte_and_texts s m c.in-Byte.byte n call new y z h.0 (search rules) (search rules) c.text_len-len.ensures.within
-    (subst (λ (a : Delimiters). HaveRole Other (begun call) s.quotes a (take n z)) d (subst (λ (a : Delimiters). HaveRole Other (begun call) a c.args.delims.now.comments.now (take n z)) q (c.text_len-len.ensures.bytes (begun call) refl)))
+    (subst (λ (a : Delimiters). HaveRole Other (begun call) s.quotes a (take n z)) d
+    (subst (λ (a : Delimiters). HaveRole Other (begun call) a c.args.delims.now.comments.now (take n z)) q
+    (c.text_len-len.ensures.bytes (begun call) refl)))
     (search rules))
 
 pub returns-then-has_begun-clause-takes : goal.returns-then-has_begun-clause-takes
@@ -64,4 +66,6 @@ returns-clause-takes c = λ s next m first q d ahead before.
     let h = subst (λ (a : Lookahead). IsAhead a next s m y) c.in-Byte.is ahead in
     list_on s m c.args.at _ first call new x y before refl
     (byte_and_blanks s m c.in-Byte.byte n call new y z h.0 (search rules) (search rules) c.spaces_len.ensures.within
-    (subst (λ (a : Delimiters). HaveRole Blank new s.quotes a (take n z)) d (subst (λ (a : Delimiters). HaveRole Blank new a c.args.delims.now.comments.now (take n z)) q (c.spaces_len.ensures.bytes new (search rules)))))
+    (subst (λ (a : Delimiters). HaveRole Blank new s.quotes a (take n z)) d
+    (subst (λ (a : Delimiters). HaveRole Blank new a c.args.delims.now.comments.now (take n z)) q
+    (c.spaces_len.ensures.bytes new (search rules)))))

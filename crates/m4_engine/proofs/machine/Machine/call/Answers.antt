@@ -60,7 +60,8 @@ returns-then-skips-clause-steps c = λ call e is.
     record {
       moves = λ z more k o m.
           let e1 = c.begin_argument-then-skips.new.self in
-          subst (λ (i : Held). called_within e.open_calls call (here_of o m e (longer z more c.args.input.now.pending)) ≡ line_move e1.open_calls (here_of o m e1 (longer z more i.pending))) (sym c.lend.ensures.input)
+          subst (λ (i : Held). called_within e.open_calls call (here_of o m e (longer z more c.args.input.now.pending))
+          ≡ line_move e1.open_calls (here_of o m e1 (longer z more i.pending))) (sym c.lend.ensures.input)
           (called_skips e e1 call a (longer z more c.args.input.now.pending) acted (search rules) (search rules) made o m);
       ready = search rules;
       limits = ap (λ (x : Engine). x.limits) made;
@@ -88,9 +89,12 @@ returns-clause-steps c = λ call e is.
     record {
       moves = λ z more k o m.
           let pushed : c.put_more.new.effect.push ≡ c.act_on.new.effect.push = search rules in
-          called_goes e c.begin_argument-2.new.self call a (longer z more c.args.input.now.pending) (longer z more c.push_value.new.input.pending) acted (search rules) (search rules) made
+          called_goes e c.begin_argument-2.new.self call a (longer z more c.args.input.now.pending)
+          (longer z more c.push_value.new.input.pending) acted (search rules) (search rules) made
           (subst (λ (v : Option Pushed). with_value v (longer z more c.args.input.now.pending) ≡ longer z more c.push_value.new.input.pending) pushed
-          (subst (λ (i : Held). with_value c.put_more.new.effect.push (longer z more i.pending) ≡ longer z more c.push_value.new.input.pending) c.lend.ensures.input (c.in_ok-push_value.ensures.pushes z more))) o m;
+          (subst (λ (i : Held). with_value c.put_more.new.effect.push (longer z more i.pending)
+          ≡ longer z more c.push_value.new.input.pending) c.lend.ensures.input
+          (c.in_ok-push_value.ensures.pushes z more))) o m;
       ready = search rules;
       limits = ap (λ (x : Engine). x.limits) made;
       made = search rules;

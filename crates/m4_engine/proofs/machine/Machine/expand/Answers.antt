@@ -7,7 +7,13 @@ use Rattle.m4_engine.proofs.machine.Machine.expand.Goals.{in-Read, in-OutOfMemor
 use Rattle.m4_engine.proofs.machine.Machine.expand.Goals as goal
 
 pub blocks-2-init : goal.blocks-2-init
-blocks-2-init g c = record { takes = takes_nothing c.args.self.now c.args.input.now _ _ _ c.requires.idle c.requires.ready; read = refl; out = refl; reported = refl }
+blocks-2-init g c = record {
+  takes = takes_nothing c.args.self.now c.args.input.now _ _ _ c.requires.idle
+      c.requires.ready;
+  read = refl;
+  out = refl;
+  reported = refl;
+}
 
 pub expand_in_hand-requires : goal.expand_in_hand-requires
 expand_in_hand-requires g c = record { ready = c.blocks-2.invariant.takes.ready; flushed = c.blocks-2.invariant.takes.flushed }
@@ -25,22 +31,29 @@ returns-in-Err-clause-order g c = told_so c.args.self.now c.blocks-2.self c.args
 
 pub blocks-2-preserved : goal.blocks-2-preserved
 blocks-2-preserved g c =
-    let h = needs_so c.blocks-2.wanted c.in-Ok.more c.blocks-2.self c.expand_in_hand.new.self c.blocks-2.input c.expand_in_hand.new.input _ c.expand_in_hand.result c.in-Ok.is c.expand_in_hand.ensures.gives in
+    let h = needs_so c.blocks-2.wanted c.in-Ok.more c.blocks-2.self c.expand_in_hand.new.self c.blocks-2.input
+    c.expand_in_hand.new.input _ c.expand_in_hand.result c.in-Ok.is c.expand_in_hand.ensures.gives in
     record {
-      takes = blocks_came c.args.self.now c.blocks-2.self c.expand_in_hand.new.self c.args.input.now.pending c.blocks-2.input c.expand_in_hand.new.input c.read_on.new.input _ _ _ _ _ _ _ _ _ c.blocks-2.wanted c.in-Ok.more c.requires.idle c.blocks-2.invariant.takes h c.in_default.ensures.gives;
-      read = came_counted c.in-Ok.more c.expand_in_hand.new.self _ _ c.expand_in_hand.new.input c.read_on.new.input _ _ h.ready.sound c.in_default.ensures.gives c.in_default.ensures.counted ∙ c.blocks-2.invariant.read;
+      takes = blocks_came c.args.self.now c.blocks-2.self c.expand_in_hand.new.self c.args.input.now.pending
+          c.blocks-2.input c.expand_in_hand.new.input c.read_on.new.input _ _ _ _ _ _ _ _ _ c.blocks-2.wanted
+          c.in-Ok.more c.requires.idle c.blocks-2.invariant.takes h c.in_default.ensures.gives;
+      read = came_counted c.in-Ok.more c.expand_in_hand.new.self _ _ c.expand_in_hand.new.input c.read_on.new.input _ _
+          h.ready.sound c.in_default.ensures.gives c.in_default.ensures.counted ∙ c.blocks-2.invariant.read;
       out = c.in-Ok.ensures.counted.0 ∙ c.blocks-2.invariant.out;
       reported = c.in-Ok.ensures.counted.1 ∙ c.blocks-2.invariant.reported;
     }
 
 pub unreachable-requires : goal.unreachable-requires
 unreachable-requires g c =
-    let lasting : IsLasting c.in-Err-read_on.fault = lasting_so c.in-Ok.more c.expand_in_hand.new.self _ _ c.expand_in_hand.new.input c.read_on.new.input c.in-Err-read_on.fault c.in-Err-read_on.ensures.gives in
+    let lasting : IsLasting c.in-Err-read_on.fault =
+    lasting_so c.in-Ok.more c.expand_in_hand.new.self _ _ c.expand_in_hand.new.input c.read_on.new.input
+    c.in-Err-read_on.fault c.in-Err-read_on.ensures.gives in
     search rules
 
 pub returns-in-Err-read_on : goal.returns-in-Err-read_on
 returns-in-Err-read_on g c =
-    let h = needs_so c.blocks-2.wanted c.in-Ok.more c.blocks-2.self c.expand_in_hand.new.self c.blocks-2.input c.expand_in_hand.new.input _ c.expand_in_hand.result c.in-Ok.is c.expand_in_hand.ensures.gives in
+    let h = needs_so c.blocks-2.wanted c.in-Ok.more c.blocks-2.self c.expand_in_hand.new.self c.blocks-2.input
+    c.expand_in_hand.new.input _ c.expand_in_hand.result c.in-Ok.is c.expand_in_hand.ensures.gives in
     let cause : c.match-fault.result ≡ fault_cause c.in-Err-read_on.fault = elim c.match-fault.branch [
       | in-Read w ↦ w.result-is ∙ sym (ap fault_cause w.in-Read.is)
       | in-OutOfMemory w ↦ w.result-is ∙ sym (ap fault_cause w.in-OutOfMemory.is)
@@ -54,6 +67,9 @@ returns-in-Err-read_on g c =
           c.blocks-2.input c.expand_in_hand.new.input c.read_on.new.input _ _ _ _ _ _ _ _ _ c.blocks-2.wanted
           c.in-Ok.more c.in-Err-read_on.fault c.match-fault.result cause c.requires.idle
           c.blocks-2.invariant.takes h c.in-Err-read_on.ensures.gives;
-      read = fault_counted_so c.in-Ok.more c.expand_in_hand.new.self _ _ c.expand_in_hand.new.input c.read_on.new.input c.in-Err-read_on.fault c.match-fault.result _ _ _ cause h.ready.sound c.in-Err-read_on.ensures.gives c.blocks-2.invariant.read c.in-Err-read_on.ensures.counted;
-      counted = none_failed c.match-fault.result c.in-Err-read_on.fault _ cause (c.in-Ok.ensures.counted.0 ∙ c.blocks-2.invariant.out, c.in-Ok.ensures.counted.1 ∙ c.blocks-2.invariant.reported);
+      read = fault_counted_so c.in-Ok.more c.expand_in_hand.new.self _ _ c.expand_in_hand.new.input c.read_on.new.input
+          c.in-Err-read_on.fault c.match-fault.result _ _ _ cause h.ready.sound c.in-Err-read_on.ensures.gives
+          c.blocks-2.invariant.read c.in-Err-read_on.ensures.counted;
+      counted = none_failed c.match-fault.result c.in-Err-read_on.fault _ cause
+          (c.in-Ok.ensures.counted.0 ∙ c.blocks-2.invariant.out, c.in-Ok.ensures.counted.1 ∙ c.blocks-2.invariant.reported);
     }

@@ -31,7 +31,8 @@ returns-in_default-clause-gives g c = lack_gives c.args.wanted c.args.self.now c
 
 pub returns-in_default-turn-clause-gives : goal.returns-in_default-turn-clause-gives
 returns-in_default-turn-clause-gives g c =
-    let r = passed c.args.wanted c.args.self.now c.turns.self c.pass_plain.new.self c.args.input.now.pending c.turns.input c.pass_plain.new.input _ _ _ _ c.turns.invariant.runs c.in-Ok.ensures.passes in
+    let r = passed c.args.wanted c.args.self.now c.turns.self c.pass_plain.new.self c.args.input.now.pending
+    c.turns.input c.pass_plain.new.input _ _ _ _ c.turns.invariant.runs c.in-Ok.ensures.passes in
     lack_gives c.args.wanted c.args.self.now c.pass_plain.new.self c.turn.new.self c.turn.new.self
     c.args.input.now c.pass_plain.new.input c.turn.new.input c.len-earlier.result _ _ _ _ _ c.give_out-in_default-turn.result
     r (search rules) c.in_default-turn.ensures.kept c.give_out-in_default-turn.ensures.gives
@@ -46,7 +47,8 @@ returns-clause-gives g c = needs_line c.args.self.now c.args.input.now c.skip_in
 pub turns-init : goal.turns-init
 turns-init g c = record {
   runs = elim c.in_default.branch [
-    | in_default-via-in-Token-1 w ↦ begins_so c.args.self.now c.args.input.now c.in_default.input c.args.wanted _ _ (search rules) (search rules) c.requires.ready c.requires.flushed
+    | in_default-via-in-Token-1 w ↦ begins_so c.args.self.now c.args.input.now c.in_default.input c.args.wanted _ _
+        (search rules) (search rules) c.requires.ready c.requires.flushed
     | in_default-via-in-Line+else-not-skip_in_hand w ↦ begins_past c.args.self.now c.args.input.now w.skip_in_hand.new.self c.in_default.input
         c.args.wanted _ _ (search rules) (search rules) c.requires.ready c.requires.flushed
         (line_done_by c.args.input.now w.skip_in_hand.new.self w.skip_in_hand.result true
@@ -60,8 +62,11 @@ turns-init g c = record {
 
 pub returns-in-Err-clause-gives : goal.returns-in-Err-clause-gives
 returns-in-Err-clause-gives g c =
-    let r = passed c.args.wanted c.args.self.now c.turns.self c.pass_plain.new.self c.args.input.now.pending c.turns.input c.pass_plain.new.input _ _ _ _ c.turns.invariant.runs c.in-Ok.ensures.passes in
-    write_breaks c.args.wanted c.args.self.now c.pass_plain.new.self c.turn.new.self c.args.input.now.pending c.pass_plain.new.input c.turn.new.input c.in-Ok-turn.turned _ _ _ _ _ _ r c.in-Ok-turn.ensures.turns.moves c.in-Ok-turn.ensures.turns.made c.in-Err.ensures.begun
+    let r = passed c.args.wanted c.args.self.now c.turns.self c.pass_plain.new.self c.args.input.now.pending
+    c.turns.input c.pass_plain.new.input _ _ _ _ c.turns.invariant.runs c.in-Ok.ensures.passes in
+    write_breaks c.args.wanted c.args.self.now c.pass_plain.new.self c.turn.new.self c.args.input.now.pending
+    c.pass_plain.new.input c.turn.new.input c.in-Ok-turn.turned _ _ _ _ _ _ r c.in-Ok-turn.ensures.turns.moves
+    c.in-Ok-turn.ensures.turns.made c.in-Err.ensures.begun
 
 pub turns-smaller-in-turns : goal.turns-smaller-in-turns
 turns-smaller-in-turns g c = fell c.turns.self c.pass_plain.new.self c.turn.new.self
@@ -71,7 +76,8 @@ turns-smaller-in-turns g c = fell c.turns.self c.pass_plain.new.self c.turn.new.
 
 pub turns-preserved-in-turns : goal.turns-preserved-in-turns
 turns-preserved-in-turns g c =
-    let r = passed c.args.wanted c.args.self.now c.turns.self c.pass_plain.new.self c.args.input.now.pending c.turns.input c.pass_plain.new.input _ _ _ _ c.turns.invariant.runs c.in-Ok.ensures.passes in
+    let r = passed c.args.wanted c.args.self.now c.turns.self c.pass_plain.new.self c.args.input.now.pending
+    c.turns.input c.pass_plain.new.input _ _ _ _ c.turns.invariant.runs c.in-Ok.ensures.passes in
     record {
       runs = went_on c.args.wanted c.args.self.now c.pass_plain.new.self c.turn.new.self c.turn.new.self
           c.args.input.now.pending c.pass_plain.new.input c.turn.new.input _ _ _ _ _ _ c.in-Ok-turn.turned r
@@ -91,12 +97,14 @@ turns-smaller-in-GoesOn-turned g c = fell c.turns.self c.pass_plain.new.self c.t
 
 pub turns-preserved-in-GoesOn-turned : goal.turns-preserved-in-GoesOn-turned
 turns-preserved-in-GoesOn-turned g c =
-    let r = passed c.args.wanted c.args.self.now c.turns.self c.pass_plain.new.self c.args.input.now.pending c.turns.input c.pass_plain.new.input _ _ _ _ c.turns.invariant.runs c.in-Ok.ensures.passes in
+    let r = passed c.args.wanted c.args.self.now c.turns.self c.pass_plain.new.self c.args.input.now.pending
+    c.turns.input c.pass_plain.new.input _ _ _ _ c.turns.invariant.runs c.in-Ok.ensures.passes in
     record {
       runs = went_on c.args.wanted c.args.self.now c.pass_plain.new.self c.turn.new.self c.flush.new.self
           c.args.input.now.pending c.pass_plain.new.input c.turn.new.input _ _ _ _ _ _ c.in-Ok-turn.turned r
           c.in-Ok-turn.ensures.turns.moves c.in-Ok-turn.ensures.turns.ready c.in-GoesOn-turned.is c.in-Ok-turn.ensures.turns.limits
-          (due_all c.turn.new.self c.flush.new.self _ _ _ _ c.in_default-flush.ensures.engine c.in_default-flush.ensures.output c.in_default-flush.ensures.messages);
+          (due_all c.turn.new.self c.flush.new.self _ _ _ _ c.in_default-flush.ensures.engine
+          c.in_default-flush.ensures.output c.in_default-flush.ensures.messages);
       quiet = ap (λ (d : Engine). d.messages) c.in_default-flush.ensures.engine;
       few = few_left _ (ap (λ (d : Engine). d.output) c.in_default-flush.ensures.engine);
       out = c.in_default-flush.ensures.counted.0 ∙ c.turns.invariant.out;
@@ -106,12 +114,15 @@ turns-preserved-in-GoesOn-turned g c =
 pub flush-requires : goal.flush-requires
 flush-requires g c =
     let held : c.len-earlier.result ≡ length c.pass_plain.new.self.output = search rules in
-    let grows : length c.pass_plain.new.self.output ≤ length c.turn.new.self.output = output_stays c.pass_plain.new.self c.turn.new.self c.pass_plain.new.input c.turn.new.input c.in-Ok-turn.turned c.in-Ok-turn.ensures.turns.moves c.in-Ok-turn.ensures.turns.made in
+    let grows : length c.pass_plain.new.self.output ≤ length c.turn.new.self.output =
+    output_stays c.pass_plain.new.self c.turn.new.self c.pass_plain.new.input c.turn.new.input c.in-Ok-turn.turned
+    c.in-Ok-turn.ensures.turns.moves c.in-Ok-turn.ensures.turns.made in
     omega arith
 
 pub returns-then-not-skip_in_hand-2-clause-gives : goal.returns-then-not-skip_in_hand-2-clause-gives
 returns-then-not-skip_in_hand-2-clause-gives g c =
-    let r = passed c.args.wanted c.args.self.now c.turns.self c.pass_plain.new.self c.args.input.now.pending c.turns.input c.pass_plain.new.input _ _ _ _ c.turns.invariant.runs c.in-Ok.ensures.passes in
+    let r = passed c.args.wanted c.args.self.now c.turns.self c.pass_plain.new.self c.args.input.now.pending
+    c.turns.input c.pass_plain.new.input _ _ _ _ c.turns.invariant.runs c.in-Ok.ensures.passes in
     needs_line_after c.args.wanted c.args.self.now c.pass_plain.new.self c.turn.new.self c.flush.new.self
     c.args.input.now.pending c.args.input.now c.pass_plain.new.input c.turn.new.input c.skip_in_hand-in-SkipsLine.new.self _ _
     _ _ _ _ c.in-Ok-turn.turned refl r c.in-Ok-turn.ensures.turns.moves c.in-Ok-turn.ensures.turns.ready c.in-SkipsLine.is
@@ -131,7 +142,8 @@ turns-smaller g c = fell_past_line c.turns.self c.pass_plain.new.self c.turn.new
 
 pub turns-preserved : goal.turns-preserved
 turns-preserved g c =
-    let r = passed c.args.wanted c.args.self.now c.turns.self c.pass_plain.new.self c.args.input.now.pending c.turns.input c.pass_plain.new.input _ _ _ _ c.turns.invariant.runs c.in-Ok.ensures.passes in
+    let r = passed c.args.wanted c.args.self.now c.turns.self c.pass_plain.new.self c.args.input.now.pending
+    c.turns.input c.pass_plain.new.input _ _ _ _ c.turns.invariant.runs c.in-Ok.ensures.passes in
     record {
       runs = went_past_line c.args.wanted c.args.self.now c.pass_plain.new.self c.turn.new.self c.flush.new.self
           c.args.input.now.pending c.pass_plain.new.input c.turn.new.input c.skip_in_hand-in-SkipsLine.new.self _ _ _ _ _ _
@@ -149,7 +161,8 @@ turns-preserved g c =
 
 pub returns-in-NeedsMore-clause-gives : goal.returns-in-NeedsMore-clause-gives
 returns-in-NeedsMore-clause-gives g c =
-    let r = passed c.args.wanted c.args.self.now c.turns.self c.pass_plain.new.self c.args.input.now.pending c.turns.input c.pass_plain.new.input _ _ _ _ c.turns.invariant.runs c.in-Ok.ensures.passes in
+    let r = passed c.args.wanted c.args.self.now c.turns.self c.pass_plain.new.self c.args.input.now.pending
+    c.turns.input c.pass_plain.new.input _ _ _ _ c.turns.invariant.runs c.in-Ok.ensures.passes in
     needed c.args.wanted c.args.self.now c.pass_plain.new.self c.turn.new.self c.flush.new.self
     c.args.input.now.pending c.args.input.now c.pass_plain.new.input c.turn.new.input _ _ _ _ _ _
     c.in-Ok-turn.turned refl r c.in-Ok-turn.ensures.turns.made c.in-NeedsMore.is c.in_default-flush.ensures.engine
@@ -157,7 +170,8 @@ returns-in-NeedsMore-clause-gives g c =
 
 pub returns-in-Ends-clause-gives : goal.returns-in-Ends-clause-gives
 returns-in-Ends-clause-gives g c =
-    let r = passed c.args.wanted c.args.self.now c.turns.self c.pass_plain.new.self c.args.input.now.pending c.turns.input c.pass_plain.new.input _ _ _ _ c.turns.invariant.runs c.in-Ok.ensures.passes in
+    let r = passed c.args.wanted c.args.self.now c.turns.self c.pass_plain.new.self c.args.input.now.pending
+    c.turns.input c.pass_plain.new.input _ _ _ _ c.turns.invariant.runs c.in-Ok.ensures.passes in
     hand_ends c.args.wanted c.args.self.now c.flush.new.self c.args.input.now c.turn.new.input _ c.in-Ends.end _ c.cause.ensures
     (ended c.args.wanted c.args.self.now c.pass_plain.new.self c.turn.new.self c.flush.new.self
     c.args.input.now.pending c.turn.new.input.pending c.pass_plain.new.input _ _ _ _ _ _ c.in-Ok-turn.turned
@@ -166,7 +180,8 @@ returns-in-Ends-clause-gives g c =
 
 pub returns-in-Err-clause-order : goal.returns-in-Err-clause-order
 returns-in-Err-clause-order g c =
-    let r = passed c.args.wanted c.args.self.now c.turns.self c.pass_plain.new.self c.args.input.now.pending c.turns.input c.pass_plain.new.input _ _ _ _ c.turns.invariant.runs c.in-Ok.ensures.passes in
+    let r = passed c.args.wanted c.args.self.now c.turns.self c.pass_plain.new.self c.args.input.now.pending
+    c.turns.input c.pass_plain.new.input _ _ _ _ c.turns.invariant.runs c.in-Ok.ensures.passes in
     write_breaks_in_order c.args.wanted c.args.self.now c.pass_plain.new.self c.turn.new.self c.args.input.now.pending
     c.pass_plain.new.input c.turn.new.input c.in-Ok-turn.turned c.len-earlier.result _ _ _ _ _ _ r
     c.in-Ok-turn.ensures.turns.moves c.in-Ok-turn.ensures.turns.made (search rules) c.in-Err.ensures.order
@@ -182,7 +197,8 @@ returns-in_default-clause-order g c = lack_gives_in_order c.args.wanted c.args.s
 
 pub returns-in_default-turn-clause-order : goal.returns-in_default-turn-clause-order
 returns-in_default-turn-clause-order g c =
-    let r = passed c.args.wanted c.args.self.now c.turns.self c.pass_plain.new.self c.args.input.now.pending c.turns.input c.pass_plain.new.input _ _ _ _ c.turns.invariant.runs c.in-Ok.ensures.passes in
+    let r = passed c.args.wanted c.args.self.now c.turns.self c.pass_plain.new.self c.args.input.now.pending
+    c.turns.input c.pass_plain.new.input _ _ _ _ c.turns.invariant.runs c.in-Ok.ensures.passes in
     lack_gives_in_order c.args.wanted c.args.self.now c.pass_plain.new.self c.turn.new.self c.args.input.now.pending
     c.pass_plain.new.input c.len-earlier.result _ _ _ _ _ c.give_out-in_default-turn.result
     r (search rules) c.in_default-turn.ensures.kept c.give_out-in_default-turn.ensures.gives

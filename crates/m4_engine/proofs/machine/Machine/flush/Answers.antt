@@ -13,20 +13,34 @@ in_any (Err e) h = h
 
 pub returns-in_err-write_all-clause-order : goal.returns-in_err-write_all-clause-order
 returns-in_err-write_all-clause-order g c =
-    let reported : (c.args.self.now.messages ≡ []) ⊎ (c.args.earlier ≡ c.if-is_empty.first) = elim c.if-is_empty.branch [ then-is_empty w ↦ inl (nil_from_length c.args.self.now.messages (search rules)) | else-is_empty w ↦ inr (search rules) ] in
-    in_any c.from_residual.result (first_breaks _ _ _ c.args.earlier c.if-is_empty.first c.args.self.now.output c.args.self.now.messages reported (search rules))
+    let reported : (c.args.self.now.messages ≡ []) ⊎ (c.args.earlier ≡ c.if-is_empty.first) =
+    elim c.if-is_empty.branch [
+      | then-is_empty w ↦ inl (nil_from_length c.args.self.now.messages (search rules))
+      | else-is_empty w ↦ inr (search rules)
+    ] in
+    in_any c.from_residual.result (first_breaks _ _ _ c.args.earlier c.if-is_empty.first c.args.self.now.output
+    c.args.self.now.messages reported (search rules))
 
 pub returns-in_err-write_all-clause-begun : goal.returns-in_err-write_all-clause-begun
-returns-in_err-write_all-clause-begun g c = in_any c.from_residual.result (begun_front _ _ c.if-is_empty.first c.args.self.now.output (search rules), nothing_begun _ _)
+returns-in_err-write_all-clause-begun g c =
+    in_any c.from_residual.result (begun_front _ _ c.if-is_empty.first c.args.self.now.output (search rules), nothing_begun _ _)
 
 pub returns-in_err-write_all-2-clause-order : goal.returns-in_err-write_all-2-clause-order
 returns-in_err-write_all-2-clause-order g c =
     let no_less : c.args.earlier ≤ c.if-is_empty.first = elim c.if-is_empty.branch [ then-is_empty w ↦ search rules | else-is_empty w ↦ search rules ] in
-    let reported : (c.args.self.now.messages ≡ []) ⊎ (c.args.earlier ≡ c.if-is_empty.first) = elim c.if-is_empty.branch [ then-is_empty w ↦ inl (nil_from_length c.args.self.now.messages (search rules)) | else-is_empty w ↦ inr (search rules) ] in
-    in_any c.from_residual-in_err-write_all-2.result (messages_break _ _ _ _ c.args.earlier c.if-is_empty.first c.args.self.now.output c.args.self.now.messages no_less reported (search rules) (search rules))
+    let reported : (c.args.self.now.messages ≡ []) ⊎ (c.args.earlier ≡ c.if-is_empty.first) =
+    elim c.if-is_empty.branch [
+      | then-is_empty w ↦ inl (nil_from_length c.args.self.now.messages (search rules))
+      | else-is_empty w ↦ inr (search rules)
+    ] in
+    in_any c.from_residual-in_err-write_all-2.result
+    (messages_break _ _ _ _ c.args.earlier c.if-is_empty.first c.args.self.now.output c.args.self.now.messages
+    no_less reported (search rules) (search rules))
 
 pub returns-in_err-write_all-2-clause-begun : goal.returns-in_err-write_all-2-clause-begun
-returns-in_err-write_all-2-clause-begun g c = in_any c.from_residual-in_err-write_all-2.result (begun_front _ _ c.if-is_empty.first c.args.self.now.output (all_begun _ _ _ (search rules)), search rules)
+returns-in_err-write_all-2-clause-begun g c =
+    in_any c.from_residual-in_err-write_all-2.result
+    (begun_front _ _ c.if-is_empty.first c.args.self.now.output (all_begun _ _ _ (search rules)), search rules)
 
 pub returns-in_err-write_all-3-clause-order : goal.returns-in_err-write_all-3-clause-order
 returns-in_err-write_all-3-clause-order g c =
@@ -37,7 +51,12 @@ returns-in_err-write_all-3-clause-order g c =
     (search rules) (search rules) (search rules))
 
 pub returns-in_err-write_all-3-clause-begun : goal.returns-in_err-write_all-3-clause-begun
-returns-in_err-write_all-3-clause-begun g c = in_any c.from_residual-in_err-write_all-3.result (begun_parts _ (g.O.ByteSink.contents c.write_all.new.writer) _ c.if-is_empty.first c.args.self.now.output (search rules) (search rules), all_begun _ _ c.args.self.now.messages (search rules))
+returns-in_err-write_all-3-clause-begun g c =
+    in_any c.from_residual-in_err-write_all-3.result (
+      begun_parts _ (g.O.ByteSink.contents c.write_all.new.writer) _ c.if-is_empty.first c.args.self.now.output
+          (search rules) (search rules),
+      all_begun _ _ c.args.self.now.messages (search rules),
+    )
 
 pub returns-clause-output : goal.returns-clause-output
 returns-clause-output g c = grind (arith, common_steps)

@@ -24,7 +24,9 @@ returns-in_ok-put_text-in-Text-clause-passes c =
     let part : List ℕ = take (t.end - t.begin) (drop t.begin (drop k x)) in
     let same : c.self.inside.state ≡ old.state = ap (λ (e : Engine). e.state) c.self.view_is in
     let put : mid ≡ put_in [] (take k x) old = c.in_ok-put_outside.ensures.engine ∙ ap (λ (y : List ℕ). put_in [] y old) c.split_at.ensures.front in
-    let h : IsAhead a next old.state more (drop k x) = subst (λ (s : State). IsAhead a next s more (drop k x)) same (subst (λ (v : Lookahead). IsAhead v next c.self.inside.state more (drop k x)) t.is c.in_ok-len.ensures.after) in
+    let h : IsAhead a next old.state more (drop k x) =
+    subst (λ (s : State). IsAhead a next s more (drop k x)) same
+    (subst (λ (v : Lookahead). IsAhead v next c.self.inside.state more (drop k x)) t.is c.in_ok-len.ensures.after) in
     let takes : IsPlainRun old.state more k x = subst (λ (s : State). IsPlainRun s more k x) same c.in_ok-len.ensures.takes in
     let after : mid.open_calls ≡ [] = ap (λ (e : Engine). e.open_calls) put ∙ c.requires.outside in
     let text : c.split_at-in-Text-2.result.0.now ≡ part = search rules in

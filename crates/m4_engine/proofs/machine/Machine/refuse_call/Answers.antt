@@ -39,7 +39,8 @@ returns-then-self-clause-turns c =
     let at : Place = c.set_place.new.self.place in
     let placed : at ≡ place_at p = ap (λ (x : Call). x.place) c.in_ok-set_place.ensures in
     let new : Engine = c.report_limit-then-self.new.self in
-    found_steps_at e new (Name name) c.args.len c.args.input.now k k (Ok (turns.Ends ends.ExpansionLimit)) c.requires.first c.requires.named.scanned c.consume.ensures
+    found_steps_at e new (Name name) c.args.len c.args.input.now k k (Ok (turns.Ends ends.ExpansionLimit))
+    c.requires.first c.requires.named.scanned c.consume.ensures
     (made_moves e new d.0 listed name p q k.pending (Ok (turns.Ends ends.ExpansionLimit)) rest list d.3 d.1 d.2
     (λ before z more u o m. refused_calls e new d.0 listed (longer z more q) (before z more) o m (search rules)
     (limit_reported e new at _ _ (codes " calls") (ap (λ (x : Engine). (x.limits).calls) c.report_limit.view_is) c.in_ok-report_limit.ensures.engine
@@ -64,9 +65,11 @@ returns-clause-turns c =
     let v : Engine = c.count.new.self in
     let new : Engine = c.report_limit-3.new.self in
     let deep : is_deep_in v ≡ true = ap is_deep_in c.count.ensures ∙ room_refused e c.requires.refused (search rules) in
-    found_steps_at e new (Name name) c.args.len c.args.input.now k k (Ok (turns.Ends ends.NestingLimit)) c.requires.first c.requires.named.scanned c.consume.ensures
+    found_steps_at e new (Name name) c.args.len c.args.input.now k k (Ok (turns.Ends ends.NestingLimit))
+    c.requires.first c.requires.named.scanned c.consume.ensures
     (made_moves e new d.0 listed name p q k.pending (Ok (turns.Ends ends.NestingLimit)) rest list d.3 d.1 d.2
     (λ before z more u o m. depth_refused e v new d.0 listed (longer z more q) (before z more) o m (search rules) c.count.ensures deep
-    (limit_reported v new at _ _ (codes " nested calls") (ap (λ (x : Engine). (x.limits).nesting) c.report_limit-2.view_is) c.in_ok-report_limit-2.ensures.engine
+    (limit_reported v new at _ _ (codes " nested calls")
+    (ap (λ (x : Engine). (x.limits).nesting) c.report_limit-2.view_is) c.in_ok-report_limit-2.ensures.engine
     ∙ ap (λ (a : Place). with_engine_message (error a (nested_text (v.limits).nesting)) v) placed)))
     {to = λ t. Unit {0}} (record { moves = tt; ready = search rules; limits = search rules; made = search rules })

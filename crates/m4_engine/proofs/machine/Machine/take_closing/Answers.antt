@@ -9,7 +9,8 @@ returns-clause-steps c =
     let k = ending_opens e c.requires.inside in
     let s = c.call.ensures.steps k.0 k.1 (c.in_ok-end_argument.ensures.engine ∙ k.2) in
     record {
-      moves = closing_result c.args.input.now.pending.may_follow e k.1 c.call.new.self k.0 (λ z more. longer z more c.args.input.now.pending) c.call.new.input.pending c.call.result k.2 s.moves;
+      moves = closing_result c.args.input.now.pending.may_follow e k.1 c.call.new.self k.0
+          (λ z more. longer z more c.args.input.now.pending) c.call.new.input.pending c.call.result k.2 s.moves;
       ready = s.ready;
       limits = limits_by c.call.result _ _ _ s.limits k.3;
       made = s.made;

@@ -28,6 +28,7 @@ returns-clause-turns c =
     (subst (λ (o : Option (Bor (List ℕ) × Bool)). IfSome o (λ r. r.1 ≡ false → r.0.now ≡ text_of p)) c.in-Some.is front.all)
     (subst (λ (o : Option (Bor (List ℕ) × Bool)). IfSome o (λ r. r.1 ≡ true → end < length r.0.now)) c.in-Some.is front.longer) a.2 in
     let part : c.split_at-2.result.0.now ≡ take (end - begin) (drop begin x) = search rules in
-    let same : take (end - begin) (drop begin (text_of p)) ≡ take (end - begin) (drop begin x) = part_in_front p (others || p.may_follow) begin end x there a.1 fits in
+    let same : take (end - begin) (drop begin (text_of p)) ≡ take (end - begin) (drop begin x) =
+    part_in_front p (others || p.may_follow) begin end x there a.1 fits in
     text_taken e c.put_text.new.self c.args.all (take (end - begin) (drop begin (text_of p))) i c.consume.new.self c.requires.ready h.0 a.0 c.consume.ensures
     (c.in_ok-put_text.ensures.engine ∙ ap (λ (y : List ℕ). with_text y e) (part ∙ sym same))

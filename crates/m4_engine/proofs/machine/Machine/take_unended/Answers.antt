@@ -8,7 +8,9 @@ pub returns-in-InString-clause-makes : goal.returns-in-InString-clause-makes
 returns-in-InString-clause-makes c = record {
   moves = λ may p before f z more k o m.
       let at : Place = record { file = c.in_ok-share_name.field-0; line = c.args.line } in
-      unended_moves c.args.self.now c.add_error.new.self c.args.what InString c.args.line at c.args.input.now.pending (before z more) o m (search rules) (search rules) (search rules) (f z more) c.in_ok-add_error-in-InString.ensures.engine;
+      unended_moves c.args.self.now c.add_error.new.self c.args.what InString c.args.line at c.args.input.now.pending
+      (before z more) o m (search rules) (search rules) (search rules) (f z more)
+      c.in_ok-add_error-in-InString.ensures.engine;
   limits = search rules;
   made = search rules;
 }
@@ -17,7 +19,9 @@ pub returns-clause-makes : goal.returns-clause-makes
 returns-clause-makes c = record {
   moves = λ may p before f z more k o m.
       let at : Place = record { file = c.in_ok-share_name.field-0; line = c.args.line } in
-      unended_moves c.args.self.now c.add_error-in-InComment.new.self c.args.what InComment c.args.line at c.args.input.now.pending (before z more) o m (search rules) (search rules) (search rules) (f z more) c.in_ok-add_error-in-InComment.ensures.engine;
+      unended_moves c.args.self.now c.add_error-in-InComment.new.self c.args.what InComment c.args.line at
+      c.args.input.now.pending (before z more) o m (search rules) (search rules) (search rules) (f z more)
+      c.in_ok-add_error-in-InComment.ensures.engine;
   limits = search rules;
   made = search rules;
 }

@@ -24,7 +24,9 @@ returns-in-Byte-clause-turns c =
     let e = c.args.self.now in
     let d = c.args.next.now in
     let h = subst (λ (v : Lookahead). IsLookahead v d e c.args.input.now.pending) c.in-Byte.is c.requires.lookahead in
-    found_steps_at e c.take_byte.new.self (Byte c.in-Byte.byte) 1 c.args.input.now c.consume.new.self c.take_byte.new.input c.take_byte.result h.0 h.1.0 c.consume.ensures c.take_byte.ensures.steps.moves c.take_byte.ensures.steps
+    found_steps_at e c.take_byte.new.self (Byte c.in-Byte.byte) 1 c.args.input.now c.consume.new.self
+    c.take_byte.new.input c.take_byte.result h.0 h.1.0 c.consume.ensures c.take_byte.ensures.steps.moves
+    c.take_byte.ensures.steps
 
 not_so : (v : Bool) → not v ≡ true → v ≡ false
 not_so true h = cc
@@ -57,13 +59,16 @@ returns-in_ok-push_text-in-Expansion-clause-turns c =
     let text : List ℕ = h.1.1.0 in
     let same : c.in-Text-definition.text ≡ text = text_same _ _ (sym c.in-Text-definition.is ∙ c.definition.ensures.value ∙ h.1.1.3) in
     let rest : q.definition ≡ None = ap (λ (i : Held). (i.pending).definition) c.consume-in-Expansion.ensures in
-    let list : paren_at e.state.quotes e.state.comments q ≡ answer_of false = list_there e.state.quotes e.state.comments p q n (answer_of false) (ap (λ (i : Held). i.pending) c.consume-in-Expansion.ensures) (h.1.0).list in
+    let list : paren_at e.state.quotes e.state.comments q ≡ answer_of false =
+    list_there e.state.quotes e.state.comments p q n (answer_of false)
+    (ap (λ (i : Held). i.pending) c.consume-in-Expansion.ensures) (h.1.0).list in
     let room = room_allows e (search rules) in
     let made : new ≡ with_made [] [] None counted = c.begin_argument.ensures in
     found_steps_at e new (Name name) n c.args.input.now k c.push_text.new.input (Ok turns.GoesOn) h.0 (h.1.0).scanned c.consume-in-Expansion.ensures
     (expansion_moves e new d name p q r (Ok turns.GoesOn) rest list h.1.1
     (expanded_goes q.may_follow e counted new text (λ z more. longer z more q) r (Ok turns.GoesOn) room.0 room.1 c.count.ensures
-    (λ a x d g. text_goes q.may_follow counted new a x text q r d g made (subst (λ (x : List ℕ). Pushes q r (Some (pushes.Text x))) same c.in_ok-push_text-in-Expansion.ensures.pushes))))
+    (λ a x d g. text_goes q.may_follow counted new a x text q r d g made
+    (subst (λ (x : List ℕ). Pushes q r (Some (pushes.Text x))) same c.in_ok-push_text-in-Expansion.ensures.pushes))))
     {to = λ t. Unit {0}} (record { moves = tt; ready = c.in_ok-push_text-in-Expansion.ensures.stays; limits = search rules; made = tt })
 
 pub returns-else-not-allows_call-2-clause-turns : goal.returns-else-not-allows_call-2-clause-turns
@@ -77,10 +82,14 @@ returns-else-not-allows_call-2-clause-turns c =
     let name : List ℕ = take n (text_of p) in
     let h = subst (λ (v : Lookahead). IsLookahead v d e p) c.in-LineSkip.is c.requires.lookahead in
     let rest : q.definition ≡ None = ap (λ (i : Held). (i.pending).definition) c.consume-in-LineSkip.ensures in
-    let list : paren_at e.state.quotes e.state.comments q ≡ answer_of false = list_there e.state.quotes e.state.comments p q n (answer_of false) (ap (λ (i : Held). i.pending) c.consume-in-LineSkip.ensures) (h.1.0).list in
+    let list : paren_at e.state.quotes e.state.comments q ≡ answer_of false =
+    list_there e.state.quotes e.state.comments p q n (answer_of false)
+    (ap (λ (i : Held). i.pending) c.consume-in-LineSkip.ensures) (h.1.0).list in
     let room = room_allows e (search rules) in
-    found_steps_at e c.begin_argument-in-LineSkip.new.self (Name name) n c.args.input.now k k (Ok turns.SkipsLine) h.0 (h.1.0).scanned c.consume-in-LineSkip.ensures
-    (line_skips e c.begin_argument-in-LineSkip.new.self name p q rest list room.0 room.1 (c.begin_argument-in-LineSkip.ensures ∙ ap (λ (x : Engine). with_made [] [] None x) c.count-in-LineSkip.ensures) h.1.1)
+    found_steps_at e c.begin_argument-in-LineSkip.new.self (Name name) n c.args.input.now k k (Ok turns.SkipsLine) h.0
+    (h.1.0).scanned c.consume-in-LineSkip.ensures
+    (line_skips e c.begin_argument-in-LineSkip.new.self name p q rest list room.0 room.1
+    (c.begin_argument-in-LineSkip.ensures ∙ ap (λ (x : Engine). with_made [] [] None x) c.count-in-LineSkip.ensures) h.1.1)
     {to = λ t. Unit {0}} (record { moves = tt; ready = search rules; limits = search rules; made = tt })
 
 -- a name has no newline
@@ -101,16 +110,24 @@ consume-requires-in-LineSkip-clause-inline c = λ u.
     name_has_none e.state.quotes e.state.comments p.may_follow (text_of p) _ c.in-LineSkip.len (h.1.0).scanned
 
 pub begin_call-requires-clause-named : goal.begin_call-requires-clause-named
-begin_call-requires-clause-named c = (subst (λ (v : Lookahead). IsLookahead v c.args.next.now c.args.self.now c.args.input.now.pending) c.in-Call.is c.requires.lookahead).1.0
+begin_call-requires-clause-named c = (subst
+    (λ (v : Lookahead). IsLookahead v c.args.next.now c.args.self.now c.args.input.now.pending) c.in-Call.is
+    c.requires.lookahead).1.0
 
 pub begin_call-requires-clause-called : goal.begin_call-requires-clause-called
-begin_call-requires-clause-called c = (subst (λ (v : Lookahead). IsLookahead v c.args.next.now c.args.self.now c.args.input.now.pending) c.in-Call.is c.requires.lookahead).1.1
+begin_call-requires-clause-called c = (subst
+    (λ (v : Lookahead). IsLookahead v c.args.next.now c.args.self.now c.args.input.now.pending) c.in-Call.is
+    c.requires.lookahead).1.1
 
 pub begin_call-requires-in-List-clause-named : goal.begin_call-requires-in-List-clause-named
-begin_call-requires-in-List-clause-named c = (subst (λ (v : Lookahead). IsLookahead v c.args.next.now c.args.self.now c.args.input.now.pending) c.in-List.is c.requires.lookahead).1.0
+begin_call-requires-in-List-clause-named c =
+    (subst (λ (v : Lookahead). IsLookahead v c.args.next.now c.args.self.now c.args.input.now.pending) c.in-List.is
+    c.requires.lookahead).1.0
 
 pub begin_call-requires-in-List-clause-called : goal.begin_call-requires-in-List-clause-called
-begin_call-requires-in-List-clause-called c = (subst (λ (v : Lookahead). IsLookahead v c.args.next.now c.args.self.now c.args.input.now.pending) c.in-List.is c.requires.lookahead).1.1
+begin_call-requires-in-List-clause-called c =
+    (subst (λ (v : Lookahead). IsLookahead v c.args.next.now c.args.self.now c.args.input.now.pending) c.in-List.is
+    c.requires.lookahead).1.1
 
 pub returns-in-Undecided-clause-turns : goal.returns-in-Undecided-clause-turns
 returns-in-Undecided-clause-turns c =
@@ -132,7 +149,8 @@ returns-in-Unended-clause-turns c =
     let d = c.args.next.now in
     let i = c.args.input.now in
     let h = subst (λ (v : Lookahead). IsLookahead v d e i.pending) c.in-Unended.is c.requires.lookahead in
-    broken_turn e c.take_unended.new.self c.in-Unended.what c.line.result i c.take_unended.result c.requires.ready h.0 h.1 c.line.ensures c.take_unended.ensures.makes
+    broken_turn e c.take_unended.new.self c.in-Unended.what c.line.result i c.take_unended.result c.requires.ready h.0
+    h.1 c.line.ensures c.take_unended.ensures.makes
 
 pub take_text-requires-clause-lookahead : goal.take_text-requires-clause-lookahead
 take_text-requires-clause-lookahead c = (c.args.next.now, search rules)
