@@ -2,7 +2,7 @@
 //! Manual: "Defining a macro", "Deleting a macro", "Temporarily redefining macros".
 
 use crate::given::{Given, describe_definition, made, start};
-use crate::report::{Report, joined};
+use crate::report::Report;
 use crate::shows::shows;
 use m4_state::bytes::Bytes;
 use m4_state::definition::Def;
@@ -333,63 +333,44 @@ fn names_are_in_byte_order(rt: HostRuntime) {
     );
 }
 
-// What comes after the bytes that names begin with, in no order.
-static ENDS: [&[u8]; 8] = [
-    b"x",
-    b"\xff",
-    b"",
-    b"ab",
-    b"a",
-    b"\x00",
-    b"abcdefghi",
-    b"abcdefgh",
+// Names that begin with 15 to 40 bytes in common.
+static ALIKE: [Step; 10] = [
+    Step::Push("ffffffffffffffffffffffffffffffffffffffffx", Given::Text("")),
+    Step::Push("ffffffffffffffff", Given::Text("")),
+    Step::Push("ffffffffffffffffffffffffffffffffffffffff", Given::Text("")),
+    Step::Push("ffffffffffffffff\x00", Given::Text("")),
+    Step::Push(
+        "ffffffffffffffffffffffffffffffffffffffffabcdefgh",
+        Given::Text(""),
+    ),
+    Step::Push("ffffffffffffffffffffffffffffffffa", Given::Text("")),
+    Step::Push(
+        "ffffffffffffffffffffffffffffffffffffffffabcdefghi",
+        Given::Text(""),
+    ),
+    Step::Push("fffffffffffffff", Given::Text("")),
+    Step::Push("fffffffffffffffff", Given::Text("")),
+    Step::Push(
+        "ffffffffffffffffffffffffffffffffffffffffab",
+        Given::Text(""),
+    ),
 ];
-
-// Adds how many names there are, and each that does not go after the one before it.
-fn report_falling(state: &State, report: &mut Report) {
-    match state.definitions() {
-        Ok(all) => {
-            report.number(all.len());
-            let mut last = None;
-            for named in &all {
-                if let Some(last) = last
-                    && named.name().cmp(&last).is_le()
-                {
-                    report.pair(b", ", named.name());
-                }
-                last = Some(named.name());
-            }
-        }
-        Err(StateFault::OutOfMemory) => report.refuse(),
-    }
-}
-
-// Reports names of which each begins with 15 to 40 times the same byte.
-fn report_alike(alloc: Global) -> Result<Vec<u8>, AllocError> {
-    let mut report = Report::new(alloc);
-    match start(alloc, false) {
-        Ok(mut state) => {
-            for len in [40usize, 15, 17, 32, 16] {
-                for end in ENDS {
-                    let name = joined(alloc, &[&[b'f'; 40][..len.min(40)], end])?;
-                    if push(alloc, &mut state, &name, Given::Text("")).is_err() {
-                        report.refuse();
-                    }
-                }
-            }
-            report_falling(&state, &mut report);
-        }
-        Err(StateFault::OutOfMemory) => report.refuse(),
-    }
-    report.text()
-}
 
 #[test]
 fn names_that_begin_alike_are_in_byte_order(rt: HostRuntime) {
     shows(
         &rt,
-        "names that begin with 15 to 40 bytes in common rise",
-        b"40",
-        report_alike(rt.alloc()),
+        "names that begin with 15 to 40 bytes in common",
+        b"fffffffffffffff, text ; 0\n\
+          ffffffffffffffff, text ; 0\n\
+          ffffffffffffffff\x00, text ; 0\n\
+          fffffffffffffffff, text ; 0\n\
+          ffffffffffffffffffffffffffffffffa, text ; 0\n\
+          ffffffffffffffffffffffffffffffffffffffff, text ; 0\n\
+          ffffffffffffffffffffffffffffffffffffffffab, text ; 0\n\
+          ffffffffffffffffffffffffffffffffffffffffabcdefgh, text ; 0\n\
+          ffffffffffffffffffffffffffffffffffffffffabcdefghi, text ; 0\n\
+          ffffffffffffffffffffffffffffffffffffffffx, text ; 0\n",
+        report_of(rt.alloc(), false, &ALIKE),
     );
 }
