@@ -121,6 +121,7 @@ impl Input {
     }
 
     /// Returns whether bytes of the file may follow those in hand, since the reader has not ended yet.
+    #[doc(hidden)]
     pub fn may_follow(&self) -> bool
         ensures { result ≡ self.now.pending.may_follow }
     {
@@ -128,6 +129,7 @@ impl Input {
     }
 
     /// Returns the fault that each later call returns, if one of these was met.
+    #[doc(hidden)]
     pub fn fault(&self) -> Option<InputFault>
         ensures { result ≡ self.now.fault }
     {
@@ -135,6 +137,7 @@ impl Input {
     }
 
     /// Returns the file's name, shared; empty in wrapped text.
+    #[doc(hidden)]
     #[inline(always)]
     pub fn share_name(&self) -> Result<Bytes, AllocError>
         ensures { IfOk result (λ b. b ≡ name_of self.now.pending) }
@@ -368,6 +371,7 @@ impl Input {
     /// Asks the reader once, and appends a block of at most 4,096 bytes to those in hand. Returns whether bytes came:
     /// if none did, the reader is at its end, and the input is closed. Returns `Read` if the reader fails and
     /// `OutOfMemory` if an allocation fails; no byte is lost then, and each later call returns the fault.
+    #[doc(hidden)]
     pub fn more<R: ByteSource>(&mut self, reader: &mut R) -> Result<bool, InputFault>
         requires open { self.old.pending.may_follow ≡ true }
         requires sound { self.old.fault ≡ None }
@@ -391,6 +395,7 @@ impl Input {
     /// the reader fails and `OutOfMemory` if an allocation fails; no byte is lost then, and each later call
     /// returns the fault. Asks for no further block if there is no memory for a copy of bytes that were pushed. Takes
     /// time in proportion to the bytes in hand and those that come.
+    #[doc(hidden)]
     pub fn more_of_token<R: ByteSource>(
         &mut self,
         reader: &mut R,
@@ -426,6 +431,7 @@ impl Input {
     }
 
     /// Removes the definition that comes before the bytes in hand, if there is one, and returns it.
+    #[doc(hidden)]
     pub fn take_definition(&mut self) -> Option<Def>
         // exact steps: the definition that is the first token, and the bytes after it
         ensures taken { result ≡ self.old.pending.definition }
@@ -437,6 +443,7 @@ impl Input {
     /// Discards a definition and the rest of the line as far as it is in hand. Returns whether that was all of
     /// it: its newline was found, or the input is closed. Otherwise all bytes in hand are discarded, and more of
     /// the line may follow. Manual: "Deleting whitespace in input".
+    #[doc(hidden)]
     pub fn skip_in_hand(&mut self) -> bool
         // exact steps: the rest after the line, or after all bytes in hand
         ensures { LineGives self.old self.new result }

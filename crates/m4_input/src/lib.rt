@@ -13,9 +13,12 @@
 pub mod delims;
 pub mod fault;
 mod file;
+// What a pass of the engine takes of the bytes in hand.
+#[doc(hidden)]
 pub mod front;
 pub mod input;
 mod lanes;
+#[doc(hidden)]
 pub mod look;
 mod open_token;
 pub mod pushed;

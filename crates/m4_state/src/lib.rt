@@ -4,6 +4,8 @@
 //! Contracts see a [`state::State`] as one record of lists (`specs/State.antt`), however it is stored.
 #![tactic(auto)]
 
+// What the crates above share, on bytes and on names in order.
+#[doc(hidden)]
 pub mod append;
 pub mod builtin;
 pub mod bytes;
@@ -15,9 +17,11 @@ mod diverted;
 mod entries;
 pub mod fault;
 mod key;
+#[doc(hidden)]
 pub mod lanes;
 mod marks;
 pub mod memory;
+#[doc(hidden)]
 pub mod named;
 mod ranked;
 mod stack;
@@ -25,4 +29,5 @@ pub mod standard;
 pub mod state;
 mod table;
 pub mod transfer;
+#[doc(hidden)]
 pub mod words;

@@ -165,6 +165,7 @@ impl State {
     /// Returns the names that have a definition, in byte order, each with its definitions, the oldest
     /// first. Each call sorts them; both are borrowed. Every state is valid, and none of its byte strings is
     /// longer than 2^64 - 1.
+    #[doc(hidden)]
     pub fn definitions(&self) -> Result<Vec<NamedStack<'_>>, StateFault>
         // exact steps: the pairs of the record, in its order
         ensures pairs { IfOk result (λ named. named.items ≡ self.now.table) }

@@ -9,7 +9,6 @@ ghost use Rattle.m4_state.specs.ByteWords.{word, AreBytes};
 pub(crate) const WORD: usize = 8;
 
 /// Returns whether two byte strings are equal.
-#[doc(hidden)]
 #[inline(always)]
 pub fn are_equal(a: &[u8], b: &[u8]) -> bool
     ensures { result ≡ pointwise nat_eq a.now b.now }
