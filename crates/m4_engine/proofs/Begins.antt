@@ -1,12 +1,13 @@
 -- Begins: writers that hold a beginning of what is to be written.
-use Rattle.std.proofs.Common.{◌≡◌, ℕ, ◌+◌, ◌≤◌, List, [], ◌++◌, ◌⊎◌, inl, inr, length, take, drop, Option, refl, sym}
+use Rattle.std.proofs.Common.{◌≡◌, ℕ, zero, suc, ◌+◌, ◌≤◌, List, [], ◌∷◌, ◌++◌, ◌⊎◌, inl, inr, length, take, drop, Option, refl, sym}
 use Rattle.std.proofs.Common.{ap, subst, ◌∙◌, append-nil, append_assoc, arith}
 use Rattle.std.proofs.lemmas.List.{length-append, nil_from_length, take-append-drop, take-take}
 use Rattle.m4_state.proofs.CallerLaws.{with_bytes-append, with_bytes-nil}
 use Rattle.m4_state.specs.Device.{with_bytes, HasBegun}
 use Rattle.m4_engine.specs.Engine.{Engine, after_flush}
 use Rattle.m4_engine.specs.Expands.{FlushesDue, IsInOrder}
-use Rattle.m4_engine.specs.Writers.{HasTaken, writers}
+use Rattle.m4_engine.specs.Order.{IsBeginning}
+use Rattle.m4_engine.specs.Writers.{writers}
 
 -- a writer that was not asked has taken a beginning
 pub nothing_begun : (o : Option (List ℕ)) (x : List ℕ) → HasBegun o o x
@@ -63,44 +64,72 @@ none_begun o a x e h =
     let none : length (h.1).front ≡ 0 = omega arith in
     (h.1).holds ∙ ap (λ y. with_bytes o y) (nil_from_length (h.1).front none ∙ sym e)
 
--- the first n bytes and maybe more were written, where the first k were, and k is no less
-taken : (o a m b : Option (List ℕ)) (n k : ℕ) (all more : List ℕ) → n ≤ k → a ≡ with_bytes o (take k all ++ more) → HasTaken (take n all) (writers o a m b)
-taken o a m b n k all more l e = (
-  drop n (take k all) ++ more,
-  e ∙ ap (λ x. with_bytes o (x ++ more)) (sym (take-append-drop n (take k all)))
-      ∙ ap (λ x. with_bytes o ((x ++ drop n (take k all)) ++ more)) (take-take n k all l)
-      ∙ ap (λ x. with_bytes o x) (append_assoc (take n all) (drop n (take k all)) more),
-)
+-- of two beginnings of one text the one begins with the other
+pub which_front : (f x e y : List ℕ) → f ++ x ≡ e ++ y
+    → IsBeginning f e ⊎ ((k : List ℕ) × (f ≡ e ++ k) × (y ≡ k ++ x))
+which_front [] x e y h = inl (e, refl)
+which_front (a ∷ f) x [] y h = inr (a ∷ f, refl, sym h)
+which_front (a ∷ f) x (b ∷ e) y h = by (which_front f x e y (ap (drop 1) h))
+  where
+    by : IsBeginning f e ⊎ ((k : List ℕ) × (f ≡ e ++ k) × (y ≡ k ++ x))
+        → IsBeginning (a ∷ f) (b ∷ e) ⊎ ((k : List ℕ) × (a ∷ f ≡ (b ∷ e) ++ k) × (y ≡ k ++ x))
+    by (inl g) = inl (g.0, ap (λ v. b ∷ v) g.1 ∙ ap (λ v. take 1 v ++ (f ++ g.0)) (sym h))
+    by (inr g) = inr (g.0, ap (λ v. a ∷ v) g.1 ∙ ap (λ v. take 1 v ++ (e ++ g.0)) h, g.2)
+
+-- what follows the first n bytes, by way of the first k
+drop_past : (n k : ℕ) (x : List ℕ) → n ≤ k → drop n x ≡ drop n (take k x) ++ drop k x
+drop_past zero k x l = sym (take-append-drop k x)
+drop_past (suc n) zero x l = absurd (not_less n l)
+  where
+    not_less : (n : ℕ) → suc n ≤ 0 → ⊥
+    not_less n l = omega arith
+drop_past (suc n) (suc k) [] l = refl
+drop_past (suc n) (suc k) (a ∷ x) l = drop_past n k x (omega arith)
+
+take_past : (n k : ℕ) (x : List ℕ) → n ≤ k → take k x ≡ take n x ++ drop n (take k x)
+take_past n k x l = sym (take-append-drop n (take k x)) ∙ ap (λ v. v ++ drop n (take k x)) (take-take n k x l)
+
+-- the first n bytes and some of those after them, where a beginning f of all was written
+fronted : (o a m b : Option (List ℕ)) (n : ℕ) (all f z reported : List ℕ) → a ≡ with_bytes o f → all ≡ f ++ z
+    → b ≡ m → b ≡ with_bytes m reported → IsInOrder (take n all) (drop n all) reported (writers o a m b)
+fronted o a m b n all f z reported e p q g = by (which_front f z (take n all) (drop n all) (sym p ∙ sym (take-append-drop n all)))
+  where
+    by : IsBeginning f (take n all) ⊎ ((k : List ℕ) × (f ≡ take n all ++ k) × (drop n all ≡ k ++ z))
+        → IsInOrder (take n all) (drop n all) reported (writers o a m b)
+    by (inl h) = inl ((h.0, record { front = f; parts = h.1; holds = e }), q)
+    by (inr h) = inr (inr (h.0, (z, h.2), e ∙ ap (with_bytes o) h.1, g))
 
 -- the first k bytes could not all be written; where there are messages, k is n
 pub first_breaks : (o a m : Option (List ℕ)) (n k : ℕ) (all reported : List ℕ) → (reported ≡ []) ⊎ (n ≡ k)
-    → HasBegun o a (take k all) → IsInOrder (take n all) reported (writers o a m m)
-first_breaks o a m n k all reported c h = record {
-  output_first = inl refl;
-  then_messages = go c;
-}
-  where
-    go : (reported ≡ []) ⊎ (n ≡ k) → HasBegun o a (take n all) ⊎ (m ≡ with_bytes m reported)
-    go (inl z) = inr (with_bytes-nil m ∙ ap (λ x. with_bytes m x) (sym z))
-    go (inr s) = inl (subst (λ j. HasBegun o a (take j all)) (sym s) h)
+    → HasBegun o a (take k all) → IsInOrder (take n all) (drop n all) reported (writers o a m m)
+first_breaks o a m n k all reported (inl z) h =
+    let b = begun_front o a k all h in
+    fronted o a m m n all (b.1).front b.0 reported (b.1).holds (b.1).parts refl (with_bytes-nil m ∙ ap (with_bytes m) (sym z))
+first_breaks o a m n k all reported (inr s) h = inl (subst (λ j. HasBegun o a (take j all)) (sym s) h, refl)
 
 -- the messages could not be written
-pub messages_break : (o a m b : Option (List ℕ)) (n k : ℕ) (all reported : List ℕ) → n ≤ k → (reported ≡ []) ⊎ (n ≡ k)
-    → a ≡ with_bytes o (take k all) → HasBegun m b reported → IsInOrder (take n all) reported (writers o a m b)
-messages_break o a m b n k all reported l c e h = record {
-  output_first = inr (taken o a m b n k all [] l (e ∙ ap (λ x. with_bytes o x) (sym (append-nil (take k all)))));
-  then_messages = go c;
-}
-  where
-    go : (reported ≡ []) ⊎ (n ≡ k) → HasBegun o a (take n all) ⊎ (b ≡ with_bytes m reported)
-    go (inl z) = inr (none_begun m b reported z h)
-    go (inr s) = inl (all_begun o a (take n all) (e ∙ ap (λ j. with_bytes o (take j all)) (sym s)))
+pub messages_break : (o a m b : Option (List ℕ)) (n k : ℕ) (all reported : List ℕ) → (reported ≡ []) ⊎ (n ≡ k)
+    → a ≡ with_bytes o (take k all) → HasBegun m b reported
+    → IsInOrder (take n all) (drop n all) reported (writers o a m b)
+messages_break o a m b n k all reported (inl z) e h =
+    let g = none_begun m b reported z h in
+    fronted o a m b n all (take k all) (drop k all) reported e (sym (take-append-drop k all)) (g ∙ ap (with_bytes m) z ∙ sym (with_bytes-nil m)) g
+messages_break o a m b n k all reported (inr s) e h = inr (inl (e ∙ ap (λ j. with_bytes o (take j all)) (sym s), h))
 
 -- the output after them could not be written
-pub own_breaks : (o a c m b : Option (List ℕ)) (n k : ℕ) (all y reported : List ℕ) → n ≤ k
-    → a ≡ with_bytes o (take k all) → HasBegun a c y → b ≡ with_bytes m reported
-    → IsInOrder (take n all) reported (writers o c m b)
-own_breaks o a c m b n k all y reported l e h f = record {
-  output_first = inr (taken o c m b n k all (h.1).front l ((h.1).holds ∙ ap (λ z. with_bytes z (h.1).front) e ∙ with_bytes-append o (take k all) (h.1).front));
-  then_messages = inr f;
-}
+pub own_breaks : (o a c m b : Option (List ℕ)) (n k : ℕ) (all reported : List ℕ) → n ≤ k
+    → a ≡ with_bytes o (take k all) → HasBegun a c (drop k all) → b ≡ with_bytes m reported
+    → IsInOrder (take n all) (drop n all) reported (writers o c m b)
+own_breaks o a c m b n k all reported l e h f =
+    let x : List ℕ = drop n (take k all) in
+    inr (inr (
+      x ++ (h.1).front,
+      (
+        h.0,
+        drop_past n k all l ∙ ap (λ v. x ++ v) (h.1).parts ∙ sym (append_assoc x (h.1).front h.0),
+      ),
+      (h.1).holds ∙ ap (λ v. with_bytes v (h.1).front) e ∙ with_bytes-append o (take k all) (h.1).front
+          ∙ ap (λ v. with_bytes o (v ++ (h.1).front)) (take_past n k all l)
+          ∙ ap (with_bytes o) (append_assoc (take n all) x (h.1).front),
+      f,
+    ))

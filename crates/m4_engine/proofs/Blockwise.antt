@@ -16,7 +16,7 @@ use Rattle.m4_engine.specs.declared.machine.driver.Wanted.TheVariants as wanted
 use Rattle.m4_engine.specs.Nesting.{Outcome, Halted, Closed}
 use Rattle.m4_engine.specs.OpenCalls.{Goes, resume}
 use Rattle.m4_engine.specs.Moments.{Moment, moved, made_by, Comes, first_moment}
-use Rattle.m4_engine.specs.Order.{preceded}
+use Rattle.m4_engine.specs.Order.{preceded, Shows}
 use Rattle.m4_engine.specs.Expansion.{RunSoFar, Call, Expansion, Kept, Ended, Ends, NeedsInput}
 use Rattle.m4_engine.specs.Expand.{turn, join, expand, ended_of, expansion_of}
 use Rattle.m4_engine.specs.Engine.{Engine, so_far_of, outer_of, here_of, configuration, IsReady, IsFront}
@@ -84,7 +84,7 @@ takes_nothing e i s out reported d r = record {
   m = [];
   written = record { output = with_bytes-nil out; messages = with_bytes-nil reported };
   leads = leads_nowhere wanted.Token e i.pending;
-  marked = mark_here wanted.Token e e i.pending i.pending [] [] (leads_nowhere wanted.Token e i.pending) d.output;
+  marked = mark_here wanted.Token e e i.pending i.pending [] [] (leads_nowhere wanted.Token e i.pending) d.messages;
   asked = inl refl;
   ready = r;
   flushed = record { output = d.output; messages = d.messages };
@@ -165,17 +165,11 @@ mark_longer e0 q o m y came f k = record {
   before = k.before;
   reported = k.reported;
   leads = leads_more wanted.Token e0 k.at q k.q k.before k.reported y came f k.leads;
-  more = k.more;
-  output = k.output;
-  own = k.own;
-  rest = k.rest;
-  messages = k.messages;
-  makes = λ z more c a b.
-      let made = k.makes (y ++ z) more (subst (λ v. MayFollow v (y ++ z) more) (sym f) tt) a b in (
-        made.0,
-        ap (λ (r : Pending). (made_by (moved (configuration (a ++ k.before) (b ++ k.reported) k.at r))).messages)
-            (longer_twice y z came more k.q) ∙ made.1,
-      );
+  shown = λ z more c a b.
+      subst (λ (r : Pending). Shows (so_far_of (a ++ k.before) (b ++ k.reported) k.at)
+      (made_by (moved (configuration (a ++ k.before) (b ++ k.reported) k.at r))) (a ++ o) (b ++ m))
+      (sym (longer_twice y z came more k.q))
+      (k.shown (y ++ z) more (subst (λ v. MayFollow v (y ++ z) more) (sym f) tt) a b);
 }
 
 -- ---- what it all comes to
@@ -333,7 +327,6 @@ step_broken e0 p0 before after x q o m out0 out reported0 reported d r h k = rec
   reads = r;
   so = λ z more c a b o0 m0 f g.
       let way = (k.leads).comes z more c a b in
-      let made = k.makes z more c a b in
       let at : Moment = configuration (a ++ k.before) (b ++ k.reported) k.at (longer z more k.q) in (
         (at.here).so_far,
         made_by (moved at),
@@ -345,27 +338,13 @@ step_broken e0 p0 before after x q o m out0 out reported0 reported d r h k = rec
           makes = refl;
         },
         record {
-          output = (
-            k.more,
-            h.output
-                ∙ ap (λ (v : Option (List ℕ)). with_bytes v o) f
-                ∙ with_bytes-append o0 a o
-                ∙ ap (λ (n : List ℕ). with_bytes o0 (a ++ n)) k.output
-                ∙ ap (with_bytes o0) (sym (append_assoc a (k.before ++ (k.at).output) k.more))
-                ∙ ap (λ (n : List ℕ). with_bytes o0 (n ++ k.more)) (sym (append_assoc a k.before (k.at).output)),
-          );
-          messages = (
-            k.rest ++ made.0,
-            record {
-              front = b ++ m;
-              parts =
-                  made.1
-                  ∙ ap (λ (n : List ℕ). (b ++ n) ++ made.0) k.messages
-                  ∙ ap (λ (n : List ℕ). n ++ made.0) (sym (append_assoc b m k.rest))
-                  ∙ append_assoc (b ++ m) k.rest made.0;
-              holds = h.messages ∙ ap (λ (v : Option (List ℕ)). with_bytes v m) g ∙ with_bytes-append m0 b m;
-            },
-          );
+          o = a ++ o;
+          m = b ++ m;
+          written = record {
+            output = h.output ∙ ap (λ (v : Option (List ℕ)). with_bytes v o) f ∙ with_bytes-append o0 a o;
+            messages = h.messages ∙ ap (λ (v : Option (List ℕ)). with_bytes v m) g ∙ with_bytes-append m0 b m;
+          };
+          shown = k.shown z more c a b;
         },
       );
 }

@@ -14,7 +14,7 @@ use Rattle.m4_engine.specs.declared.source.Source.{Source as RunSource}
 use Rattle.m4_engine.specs.declared.source.Source.TheVariants as sources
 use Rattle.m4_engine.specs.declared.stop.Stop.{Stop}
 use Rattle.m4_engine.specs.declared.stop.Stop.TheVariants as stops
-use Rattle.m4_engine.specs.Expansion.{Limits, Expansion}
+use Rattle.m4_engine.specs.Expansion.{Limits, Expansion, RunSoFar}
 use Rattle.m4_engine.specs.Expand.{expansion_of}
 use Rattle.m4_engine.specs.Engine.{Engine}
 use Rattle.m4_engine.specs.Turns.{MayFollow}
@@ -23,7 +23,7 @@ use Rattle.m4_engine.specs.Order.{IsBetween, IsStepOf, InSources, IsTurnOfRound,
 use Rattle.m4_engine.specs.Order.{InOrderBy, InSomeRound, preceded, Breaks, BreaksBy, FileBreaks}
 use Rattle.m4_engine.specs.File.{Source, Opened, Unopened, Progress, file_pending, cannot_open}
 use Rattle.m4_engine.specs.File.{after_sources}
-use Rattle.m4_engine.specs.Wraps.{wrapped_pending, joined_back, after_wraps}
+use Rattle.m4_engine.specs.Wraps.{wrapped_pending, joined_back, after_wraps, close}
 use Rattle.m4_engine.specs.Start.{Start, begun}
 use Rattle.m4_engine.specs.Run.{limits_of}
 use Rattle.m4_engine.specs.RunSources.{DescribesSource}
@@ -33,8 +33,8 @@ use Rattle.m4_engine.specs.RunSteps.{BeginGives}
 use Rattle.m4_engine.specs.WholeRun.{ending_by}
 use Rattle.m4_engine.specs.Writers.{Contents, writers}
 use Rattle.m4_engine.specs.Expands.{StepBreaks, StepBreaksBy, progress_before}
+use Rattle.m4_engine.proofs.Begins.{nothing_begun}
 use Rattle.m4_engine.proofs.GoingOn.{written_after, sources_after, wraps_after}
-use Rattle.m4_engine.proofs.OnlyGrows.{moment_keeps}
 use Rattle.m4_engine.proofs.Sessions.{closed_rest, taken_file, may_end}
 use Rattle.m4_engine.proofs.Sources.{described_suit, Suits, so_of, unopened_is, none_taken}
 use Rattle.m4_engine.proofs.Starts.{begun_is}
@@ -80,13 +80,11 @@ pub nothing_told : (start : Expansion) (o m : List ℕ) (out0 out reported0 repo
     → reported ≡ with_bytes reported0 m
     → IsBetween start.so_far (made_by (moved (first_moment start))) (writers out0 out reported0 reported)
 nothing_told start o m out0 out reported0 reported e f g h =
-    let k = moment_keeps (first_moment start) in
     record {
-      output = ([], g ∙ ap (with_bytes out0) (sym (append-nil o) ∙ sym e ∙ sym (append-nil (start.so_far).output)));
-      messages = (
-        k.reported,
-        record { front = m; parts = k.messages ∙ ap (λ (x : List ℕ). x ++ k.reported) (f ∙ append-nil m); holds = h },
-      );
+      o = o;
+      m = m;
+      written = record { output = g; messages = h };
+      shown = inl (([], e), sym (f ∙ append-nil m));
     }
 
 first_turn : (start : Expansion) → IsTurnOf start start.so_far (made_by (moved (first_moment start)))
@@ -203,34 +201,43 @@ rounds_end limits p w h = λ o m out messages f g.
     let k = h o m out messages f g in
     (k.0, k.1, inl k.2, k.3)
 
--- after the rounds no message is made
-pub end_breaks : (old mid : SessionState) (out0 out1 out2 reported0 reported1 : Option (List ℕ)) (x : List ℕ)
-    → GoesTo (session_after_wraps old) old mid (writers out0 out1 reported0 reported1) (Ok tt) → HasBegun out1 out2 x
+-- after the rounds the texts of the diversions are written
+pub end_breaks : (old mid : SessionState) (out0 out1 out2 reported0 reported1 : Option (List ℕ))
+    → GoesTo (session_after_wraps old) old mid (writers out0 out1 reported0 reported1) (Ok tt)
+    → HasBegun out1 out2 (close mid.state)
     → Breaks (InEnd old.limits) (progress_of old) (writers out0 out2 reported0 reported1)
-end_breaks old mid out0 out1 out2 reported0 reported1 x f h = λ o m out messages a b.
+end_breaks old mid out0 out1 out2 reported0 reported1 f h = λ o m out messages a b.
     let p : Progress = session_after_wraps old in
     let all : after_wraps old.limits (preceded o m (progress_of old)) ≡ preceded o m p = wraps_after o m old.limits (progress_of old) in
-    let goes_on : p.over ≡ None = ap (λ (q : Progress). q.over) (sym (f.0).progress) ∙ ap how_over f.1 in (
-      (preceded o m p).so_far,
-      (preceded o m p).so_far,
-      inr (ap (λ (q : Progress). q.over) all ∙ goes_on, sym (ap (λ (q : Progress). q.so_far) all), refl),
+    let goes_on : p.over ≡ None = ap (λ (q : Progress). q.over) (sym (f.0).progress) ∙ ap how_over f.1 in
+    let before : RunSoFar = (preceded o m p).so_far in
+    let same : close mid.state ≡ close before.state = ap (λ (q : Progress). close (q.so_far).state) (f.0).progress in (
+      before,
+      record before { output = before.output ++ close before.state },
+      inr (
+        ap (λ (q : Progress). q.over) all ∙ goes_on,
+        sym (ap (λ (q : Progress). q.so_far) all),
+        refl,
+      ),
       record {
-        output = (
-          (h.1).front,
-          (h.1).holds
+        o = before.output ++ (h.1).front;
+        m = before.messages;
+        written = record {
+          output = (h.1).holds
               ∙ ap (λ (v : Option (List ℕ)). with_bytes v (h.1).front)
               ((f.0).output ∙ ap (λ (v : Option (List ℕ)). with_bytes v (p.so_far).output) a
               ∙ with_bytes-append out o (p.so_far).output)
-              ∙ with_bytes-append out (o ++ (p.so_far).output) (h.1).front,
-        );
-        messages = (
-          [],
-          record {
-            front = m ++ (p.so_far).messages;
-            parts = sym (append-nil (m ++ (p.so_far).messages));
-            holds = (f.0).messages ∙ ap (λ (v : Option (List ℕ)). with_bytes v (p.so_far).messages) b ∙ with_bytes-append messages m (p.so_far).messages;
-          },
-        );
+              ∙ with_bytes-append out (o ++ (p.so_far).output) (h.1).front;
+          messages = (f.0).messages ∙ ap (λ (v : Option (List ℕ)). with_bytes v (p.so_far).messages) b ∙ with_bytes-append messages m (p.so_far).messages;
+        };
+        shown = inr (inr (
+          ((h.1).front, refl),
+          (
+            h.0,
+            ap (λ (v : List ℕ). before.output ++ v) (sym same ∙ (h.1).parts) ∙ sym (append_assoc before.output (h.1).front h.0),
+          ),
+          refl,
+        ));
       },
     )
 
@@ -245,18 +252,22 @@ missing_breaks old new name w l e h = λ o m out messages f g.
       record p.so_far { messages = (p.so_far).messages ++ cannot_open name },
       (ap how_over l.over, refl, refl),
       record {
-        output = ([], e ∙ f ∙ ap (with_bytes out) (sym (append-nil o) ∙ sym (append-nil (o ++ []))));
-        messages = (
-          h.0,
-          record {
-            front = (m ++ []) ++ (h.1).front;
-            parts = ap (λ (v : List ℕ). (m ++ []) ++ v) (h.1).parts ∙ sym (append_assoc (m ++ []) (h.1).front h.0);
-            holds =
-                (h.1).holds
-                ∙ ap (λ (v : Option (List ℕ)). with_bytes v (h.1).front) (g ∙ ap (with_bytes messages) (sym (append-nil m)))
-                ∙ with_bytes-append messages (m ++ []) (h.1).front;
-          },
-        );
+        o = o;
+        m = m ++ (h.1).front;
+        written = record {
+          output = e ∙ f;
+          messages = (h.1).holds ∙ ap (λ (v : Option (List ℕ)). with_bytes v (h.1).front) g ∙ with_bytes-append messages m (h.1).front;
+        };
+        shown = inr (inl (
+          sym (append-nil o),
+          ((h.1).front, ap (λ (v : List ℕ). v ++ (h.1).front) (sym (append-nil m))),
+          (
+            h.0,
+            ap (λ (v : List ℕ). v ++ cannot_open name) (append-nil m)
+                ∙ ap (λ (v : List ℕ). m ++ v) (h.1).parts
+                ∙ sym (append_assoc m (h.1).front h.0),
+          ),
+        ));
       },
     )
 
@@ -349,12 +360,31 @@ end_step ss old mid out0 out1 out2 reported0 reported1 reported2 f h = λ o m ou
 
 -- ---- a whole run
 
--- no message was written
-pub never_told : (cause : Cause) (o : Options) (start : Start) (ss : List Source) (w : Contents)
-    → w.messages_new ≡ w.messages_old → InOrderBy cause o start ss w
-never_told causes.Write o start ss w h = inl h
-never_told causes.OutOfMemory o start ss w h = inl h
-never_told cause o start ss w h = tt
+-- it did not begin
+never_by : (o : Options) (start : Start) (ss : List Source) (e : Stop) (status : ℕ) (out out' reported : Option (List ℕ))
+    → BeginGives start o out out' (Err e)
+    → InOrderBy (ending_by status (Err e)).cause o start ss (writers out out' reported reported)
+never_by o start ss (stops.Ended causes.Write) status out out' reported h =
+    inl (subst (λ (x : Start). HasBegun out out' ((begun x).so_far).output) (sym h.2) h.3, refl)
+never_by o start ss (stops.Ended causes.OutOfMemory) status out out' reported h =
+    inl (subst (λ (x : Option (List ℕ)). HasBegun out x ((begun start).so_far).output) (sym h) (nothing_begun out ((begun start).so_far).output), refl)
+never_by o start ss (stops.Ended (causes.Frozen fault)) status out out' reported h = tt
+never_by o start ss stops.Finished status out out' reported h = absurd h
+never_by o start ss (stops.Ended causes.Done) status out out' reported h = absurd h
+never_by o start ss (stops.Ended (causes.Exited n)) status out out' reported h = absurd h
+never_by o start ss (stops.Ended causes.EndInString) status out out' reported h = absurd h
+never_by o start ss (stops.Ended causes.EndInComment) status out out' reported h = absurd h
+never_by o start ss (stops.Ended causes.EndInArguments) status out out' reported h = absurd h
+never_by o start ss (stops.Ended causes.ExpansionLimit) status out out' reported h = absurd h
+never_by o start ss (stops.Ended causes.NestingLimit) status out out' reported h = absurd h
+never_by o start ss (stops.Ended causes.Read) status out out' reported h = absurd h
+
+pub never_told : (o : Options) (start : Start) (ss : List Source) (st : Result SessionState Stop) (e : Stop) (status : ℕ)
+    (d : Ending) (out out' reported : Option (List ℕ)) → st ≡ Err e → d ≡ ending_by status (Err e)
+    → BeginGives start o out out' st → InOrderBy d.cause o start ss (writers out out' reported reported)
+never_told o start ss st e status d out out' reported i j h =
+    subst (λ (y : Ending). InOrderBy y.cause o start ss (writers out out' reported reported)) (sym j)
+    (never_by o start ss e status out out' reported (subst (BeginGives start o out out') i h))
 
 -- from its start
 start_told : (o : Options) (start : Start) (ss : List Source) (s : SessionState) (out0 out1 out2 reported0 reported1 : Option (List ℕ))

@@ -418,6 +418,9 @@ passes_follows e e1 i i1 h = follows h.0 e e1 i i1 h.1
 pub passes_limits : (e e1 : Engine) (i i1 : Held) → Passes e e1 i i1 → e1.limits ≡ e.limits
 passes_limits e e1 i i1 h = limits h.0 e e1 i i1 h.1
 
+pub passes_messages : (e e1 : Engine) (i i1 : Held) → Passes e e1 i i1 → e1.messages ≡ e.messages
+passes_messages e e1 i i1 h = messages h.0 e e1 i i1 h.1
+
 -- a further pass
 further : (ss : List (Engine × Held)) (e e1 e2 : Engine) (i i1 i2 : Held) → ArePasses ss e e1 i i1 → PassesOnce e1 e2 i1 i2 → Passes e e2 i i2
 further [] e e1 e2 i i1 i2 h g =

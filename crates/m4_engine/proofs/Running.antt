@@ -1,7 +1,8 @@
 -- Running: the state of the loop over the turns of the bytes in hand, and what its ends say.
 use Rattle.std.proofs.Common.{◌≡◌, ◌⊎◌, ◌<◌, ◌≤◌, ℕ, Bool, true, false, List, [], ◌∷◌, ◌++◌, Option, Some, None, refl}
-use Rattle.std.proofs.Common.{sym, ap, ◌∙◌, subst, append-nil, append_assoc, arith, length, take, inl, inr}
+use Rattle.std.proofs.Common.{sym, ap, ◌∙◌, subst, append-nil, append_assoc, arith, length, take, drop, inl, inr}
 use Rattle.std.specs.Prelude.{Err}
+use Rattle.std.proofs.Transfers.{drop-appended}
 use Rattle.std.proofs.lemmas.List.{take_at}
 use Rattle.m4_state.proofs.CallerLaws.{with_bytes-append, with_bytes-nil}
 use Rattle.m4_state.specs.Device.{with_bytes, HasBegun, one_more}
@@ -30,7 +31,7 @@ use Rattle.m4_engine.specs.Expands.{IsInOrder, FlushesPrefix, FlushesDue}
 use Rattle.m4_engine.specs.Continued.{BreaksInOrder, OrderBy, skipped_first, comes_to, Leads, Marked, IsMarked}
 use Rattle.m4_engine.specs.Continued.{IsFlushed, HandNeeds, HandEnds, HandBreaks, HandGives, HasMade, so_far_in}
 use Rattle.m4_engine.specs.Continued.{GivesOut}
-use Rattle.m4_engine.specs.Writers.{Contents, writers, HasWritten, HasTaken, ByCause, FailsBy}
+use Rattle.m4_engine.specs.Writers.{Contents, writers, HasWritten, ByCause, FailsBy}
 use Rattle.m4_engine.proofs.Begins.{all_begun}
 use Rattle.m4_engine.proofs.CallsFall.{falls}
 use Rattle.m4_engine.proofs.Growth.{Extends}
@@ -40,7 +41,7 @@ use Rattle.m4_engine.proofs.MachineIsNesting.{resume-halted, popped, move_keeps}
 use Rattle.m4_engine.proofs.Passing.{passes_reaches, passes_ready}
 use Rattle.m4_engine.proofs.Leading.{leads_then, leads_on, leads_nowhere, leads_past, leads_turn, leads_to_line}
 use Rattle.m4_engine.proofs.Leading.{leads_past_line, leads_along_line, leads_flushed, leads_same}
-use Rattle.m4_engine.proofs.Marks.{due_some, mark_here, mark_turn, mark_more, mark_flushed, mark_due}
+use Rattle.m4_engine.proofs.Marks.{due_some, mark_here, mark_front, mark_turn, mark_own, mark_flushed, mark_due}
 use Rattle.m4_engine.proofs.OnlyGrows.{output_front, extends_same, extends_more, whole_keeps, then_keeps, list_keeps}
 use Rattle.m4_engine.proofs.SkippedLines.{all_gone, line_done, line_keeps, line_drops}
 
@@ -74,7 +75,7 @@ begins_at_token e i out reported r f = record {
   o = [];
   m = [];
   written = none_written out reported;
-  marked = mark_here wanted.Token e e i.pending i.pending [] [] (leads_nowhere wanted.Token e i.pending) f.output;
+  marked = mark_here wanted.Token e e i.pending i.pending [] [] (leads_nowhere wanted.Token e i.pending) f.messages;
   leads = leads_nowhere wanted.Token e i.pending;
   ready = r;
 }
@@ -89,7 +90,7 @@ begins_after_line e i j out reported r f h = record {
   o = [];
   m = [];
   written = none_written out reported;
-  marked = mark_here wanted.Line e e i.pending j.pending [] [] (leads_past_line e i.pending j.pending h.0) f.output;
+  marked = mark_here wanted.Line e e i.pending j.pending [] [] (leads_past_line e i.pending j.pending h.0) f.messages;
   leads = leads_past_line e i.pending j.pending h.0;
   ready = ready_after_line i j r h;
 }
@@ -122,16 +123,16 @@ goes_on : (w : Wanted) (e0 e e' e2 : Engine) (p0 p' : Pending) (i i' : Held)
     → Running w e0 p0 out0 reported0 e2 i' out' reported'
 goes_on w e0 e e' e2 p0 p' i i' out0 reported0 out reported out' reported' r h g s q l d =
     let f = due_some e' e2 out out' reported reported' d in
-    let j : Held = record i' { pending = p' } in
+    let on : Leads w e0 p0 wanted.Token e2 p' (r.o ++ f.front) (r.m ++ f.reported) =
+    leads_then w wanted.Token wanted.Token e0 e' e2 p0 p' p' r.o r.m f.front f.reported
+    (leads_on w wanted.Token wanted.Token e0 e e' p0 i.pending p' r.o r.m r.leads (leads_turn e e' i.pending p' g l h))
+    (leads_flushed wanted.Token e' e2 p' f.front f.reported f.held) in
     record {
       o = r.o ++ f.front;
       m = r.m ++ f.reported;
       written = more_written r.o r.m f.front f.reported out0 out out' reported0 reported reported' r.written f.output f.messages;
-      marked = mark_due w e0 e e' e2 p0 i j turns.GoesOn r.o r.m out out' reported reported' r.marked r.leads h tt d;
-      leads = subst (λ (x : Pending). Leads w e0 p0 wanted.Token e2 x (r.o ++ f.front) (r.m ++ f.reported)) (sym s)
-          (leads_then w wanted.Token wanted.Token e0 e' e2 p0 p' p' r.o r.m f.front f.reported
-          (leads_on w wanted.Token wanted.Token e0 e e' p0 i.pending p' r.o r.m r.leads (leads_turn e e' i.pending p' g l h))
-          (leads_flushed wanted.Token e' e2 p' f.front f.reported f.held));
+      marked = mark_due w e0 e' e2 p0 p' r.o r.m out out' reported reported' r.marked d on;
+      leads = subst (λ (x : Pending). Leads w e0 p0 wanted.Token e2 x (r.o ++ f.front) (r.m ++ f.reported)) (sym s) on;
       ready = q;
     }
 
@@ -327,16 +328,16 @@ pub needs_line_after : (w : Wanted) (e0 e e' e2 : Engine) (p0 : Pending) (i0 i k
     → Running w e0 p0 out0 reported0 e i out reported
     → Moves (i.pending).may_follow e' k.pending t
     (λ z more o m. moved (configuration o m e (longer z more i.pending))) → StaysBy i k t → t ≡ turns.SkipsLine
-    → e'.limits ≡ e.limits → e2 ≡ after_flush e' → out' ≡ with_bytes out e'.output
+    → e'.limits ≡ e.limits → e.messages ≡ [] → e2 ≡ after_flush e' → out' ≡ with_bytes out e'.output
     → reported' ≡ with_bytes reported e'.messages → LineGives k j false
     → HandNeeds w e0 i0 wanted.Line e2 j (writers out0 out' reported0 reported')
-needs_line_after w e0 e e' e2 p0 i0 i k j out0 reported0 out reported out' reported' t p r h y g l n f q d =
+needs_line_after w e0 e e' e2 p0 i0 i k j out0 reported0 out reported out' reported' t p r h y g l z n f q d =
     let s = subst (StaysBy i k) g y in
     subst (λ (x : Engine). HandNeeds w e0 i0 wanted.Line x j (writers out0 out' reported0 reported')) (sym n)
     (line_needs w e0 (after_flush e') i0 k j (r.o ++ e'.output) (r.m ++ e'.messages) (writers out0 out' reported0 reported')
     (more_written r.o r.m e'.output e'.messages out0 out out' reported0 reported reported' r.written f q)
     (inr (subst (λ (x : Pending). Marked w e0 x (r.o ++ e'.output) (r.m ++ e'.messages)) p
-    (mark_flushed w e0 e e' p0 i k t r.o r.m r.leads h (skips_line e e' i k t g))))
+    (mark_flushed w e0 e e' p0 i k t r.o r.m r.leads h (skips_line e e' i k t g) z)))
     (leads_then w wanted.Line wanted.Line e0 e' (after_flush e') i0.pending k.pending k.pending r.o r.m e'.output e'.messages
     (leads_on w wanted.Token wanted.Line e0 e e' i0.pending i.pending k.pending r.o r.m
     (subst (λ (x : Pending). Leads w e0 x wanted.Token e i.pending r.o r.m) p r.leads)
@@ -440,62 +441,67 @@ write_breaks w e0 e e' p0 i j t out0 reported0 out reported out' reported' r h k
       (turn_made e e' i j z more (x ++ r.o) (y ++ r.m) t c' h k));
 }
 
--- the front of a turn's output is what was buffered before it
+-- the front of a turn's output is what was buffered before it, and the rest is its own
 front_taken : (n : ℕ) (a b x : List ℕ) → n ≡ length a → b ≡ a ++ x → take n b ≡ a
 front_taken n a b x l e = ap (take n) e ∙ take_at a x n (sym l)
+
+front_dropped : (n : ℕ) (a b x : List ℕ) → n ≡ length a → b ≡ a ++ x → drop n b ≡ x
+front_dropped n a b x l e = ap (λ v. drop v b) l ∙ drop-appended a b x e
 
 -- a writer failed in the flush after a turn
 pub write_breaks_in_order : (w : Wanted) (e0 e e' : Engine) (p0 : Pending) (i j : Held) (t : Turned) (earlier : ℕ)
     (out0 reported0 out reported out' reported' : Option (List ℕ)) → Running w e0 p0 out0 reported0 e i out reported
     → Moves (i.pending).may_follow e' j.pending t
-    (λ z more o m. moved (configuration o m e (longer z more i.pending))) → IsTurned e e' i j t
-    → earlier ≡ length e.output → IsInOrder (take earlier e'.output) e'.messages (writers out out' reported reported')
-    → FlushesPrefix e'.output e'.messages (writers out out' reported reported')
+    (λ z more o m. moved (configuration o m e (longer z more i.pending))) → IsTurned e e' i j t → e.messages ≡ []
+    → earlier ≡ length e.output
+    → IsInOrder (take earlier e'.output) (drop earlier e'.output) e'.messages (writers out out' reported reported')
     → BreaksInOrder w e0 p0 (writers out0 out' reported0 reported')
-write_breaks_in_order w e0 e e' p0 i j t earlier out0 reported0 out reported out' reported' r h k is order b = by order.output_first
+write_breaks_in_order w e0 e e' p0 i j t earlier out0 reported0 out reported out' reported' r h k q is order =
+    let f = output_front e e' i j t h k in
+    by f.0 f.1
+    (subst (λ (n : List ℕ). IsInOrder e.output n e'.messages (writers out out' reported reported'))
+    (front_dropped earlier e.output e'.output f.0 is f.1)
+    (subst (λ (n : List ℕ). IsInOrder n (drop earlier e'.output) e'.messages (writers out out' reported reported'))
+    (front_taken earlier e.output e'.output f.0 is f.1) order))
   where
-    by : (reported' ≡ reported) ⊎ HasTaken (take earlier e'.output) (writers out out' reported reported')
+    by : (own : List ℕ) → e'.output ≡ e.output ++ own
+        → IsInOrder e.output own e'.messages (writers out out' reported reported')
         → BreaksInOrder w e0 p0 (writers out0 out' reported0 reported')
-    by (inl q) = record {
+    by own g (inl b) = record {
       o = r.o ++ ((b.0).1).front;
       m = r.m;
       written = record {
         output = (more_written r.o r.m ((b.0).1).front [] out0 out out' reported0 reported reported r.written ((b.0).1).holds (with_bytes-nil reported)).output;
-        messages = q ∙ (r.written).messages;
+        messages = b.1 ∙ (r.written).messages;
       };
-      marked = mark_more w e0 p0 r.o r.m ((b.0).1).front r.marked;
+      marked = mark_front w e0 e p0 i.pending r.o r.m ((b.0).1).front (b.0).0 r.leads q ((b.0).1).parts;
     }
-    by (inr q) =
-        let f = output_front e e' i j t h k in
-        let same : take earlier e'.output ≡ e.output = front_taken earlier e.output e'.output f.0 is f.1 in
-        record {
-          o = (r.o ++ e.output) ++ q.0;
-          m = r.m ++ ((b.1).1).front;
-          written = record {
-            output =
-                q.1
-                ∙ ap (λ (v : List ℕ). with_bytes out (v ++ q.0)) same
-                ∙ ap (λ (v : Option (List ℕ)). with_bytes v (e.output ++ q.0)) (r.written).output
-                ∙ with_bytes-append out0 r.o (e.output ++ q.0)
-                ∙ ap (with_bytes out0) (sym (append_assoc r.o e.output q.0));
-            messages = (more_written r.o r.m [] ((b.1).1).front out0 out out reported0 reported reported' r.written
-                (with_bytes-nil out) ((b.1).1).holds).messages;
-          };
-          marked = mark_turn w e0 e e' p0 i j t r.o r.m q.0 ((b.1).1).front (b.1).0 r.leads h k ((b.1).1).parts;
-        }
+    by own g (inr (inl b)) = record {
+      o = r.o ++ e.output;
+      m = r.m ++ ((b.1).1).front;
+      written = more_written r.o r.m e.output ((b.1).1).front out0 out out' reported0 reported reported' r.written b.0 ((b.1).1).holds;
+      marked = mark_turn w e0 e e' p0 i j t r.o r.m ((b.1).1).front (b.1).0 r.leads h k q ((b.1).1).parts;
+    }
+    by own g (inr (inr b)) = record {
+      o = r.o ++ (e.output ++ b.0);
+      m = r.m ++ e'.messages;
+      written = more_written r.o r.m (e.output ++ b.0) e'.messages out0 out out' reported0 reported reported' r.written b.2 b.3;
+      marked = mark_own w e0 e e' p0 i j t r.o r.m b.0 (b.1).0 r.leads h k q
+          (g ∙ ap (λ (v : List ℕ). e.output ++ v) (b.1).1 ∙ sym (append_assoc e.output b.0 (b.1).0));
+    }
 
 -- an allocation failed in a turn, and a beginning of what was buffered before it was written
 pub lack_breaks_in_order : (w : Wanted) (e0 e : Engine) (p0 : Pending) (i : Held)
     (out0 reported0 out reported out' : Option (List ℕ)) → Running w e0 p0 out0 reported0 e i out reported
-    → HasBegun out out' e.output → BreaksInOrder w e0 p0 (writers out0 out' reported0 reported)
-lack_breaks_in_order w e0 e p0 i out0 reported0 out reported out' r b = record {
+    → e.messages ≡ [] → HasBegun out out' e.output → BreaksInOrder w e0 p0 (writers out0 out' reported0 reported)
+lack_breaks_in_order w e0 e p0 i out0 reported0 out reported out' r q b = record {
   o = r.o ++ (b.1).front;
   m = r.m;
   written = record {
     output = (more_written r.o r.m (b.1).front [] out0 out out' reported0 reported reported r.written (b.1).holds (with_bytes-nil reported)).output;
     messages = (r.written).messages;
   };
-  marked = mark_more w e0 p0 r.o r.m (b.1).front r.marked;
+  marked = mark_front w e0 e p0 i.pending r.o r.m (b.1).front b.0 r.leads q (b.1).parts;
 }
 
 -- by the cause that giving it out ends with
@@ -531,13 +537,13 @@ lack_gives w e0 e e' new i0 i j n out0 reported0 out reported out' cause r l k g
     by (inr q) = subst (λ (v : Cause). HandGives w e0 new i0 j (writers out0 out' reported0 reported) (Err v)) (sym q) broken
 
 pub lack_gives_in_order : (w : Wanted) (e0 e e' : Engine) (p0 : Pending) (i : Held) (n : ℕ) (out0 reported0 out reported out' : Option (List ℕ)) (cause : Cause)
-    → Running w e0 p0 out0 reported0 e i out reported → n ≡ length e.output → KeepsOutput e e'
+    → Running w e0 p0 out0 reported0 e i out reported → e.messages ≡ [] → n ≡ length e.output → KeepsOutput e e'
     → GivesOut (take n e'.output) out out' cause
     → OrderBy w e0 p0 (writers out0 out' reported0 reported) (Err cause)
-lack_gives_in_order w e0 e e' p0 i n out0 reported0 out reported out' cause r l k g = by (breaks_by _ _ _ _ g)
+lack_gives_in_order w e0 e e' p0 i n out0 reported0 out reported out' cause r q l k g = by (breaks_by _ _ _ _ g)
   where
     broken : BreaksInOrder w e0 p0 (writers out0 out' reported0 reported)
-    broken = lack_breaks_in_order w e0 e p0 i out0 reported0 out reported out' r
+    broken = lack_breaks_in_order w e0 e p0 i out0 reported0 out reported out' r q
         (begun_by e.output out out' cause (kept_front n e.output e'.output out out' cause l k g))
 
     by : (cause ≡ causes.OutOfMemory) ⊎ (cause ≡ causes.Write) → OrderBy w e0 p0 (writers out0 out' reported0 reported) (Err cause)

@@ -19,6 +19,7 @@ pub use Rattle.m4_engine.specs.Moments.{so_far_in}
 use Rattle.m4_engine.specs.Expansion.{RunSoFar, Expansion, Kept, Ended, Ends, NeedsInput}
 use Rattle.m4_engine.specs.Expand.{turn, join, expand, skip_line}
 use Rattle.m4_engine.specs.Engine.{Engine, so_far_of, configuration, IsReady}
+use Rattle.m4_engine.specs.Order.{Shows}
 use Rattle.m4_engine.specs.Turns.{MayFollow}
 use Rattle.m4_engine.specs.Writers.{Contents, HasWritten}
 
@@ -45,23 +46,16 @@ pub record Leads (w : Wanted) (old : Engine) (p : Pending) (v : Wanted) (new : E
   pub follows : q.may_follow ≡ p.may_follow
   pub limits : new.limits ≡ old.limits
 
--- o and m were written on the way from a place: before the turn at `at` all output was written, and that turn and
--- those before it made all messages that were
+-- o and m were written on the way from a place: the turn at `at` shows it, whatever follows the bytes in hand
 pub record Marked (w : Wanted) (old : Engine) (p : Pending) (o m : List ℕ) : Type 0 where
   pub at : Engine
   pub q : Pending
   pub before : List ℕ
   pub reported : List ℕ
   pub leads : Leads w old p wanted.Token at q before reported
-  pub more : List ℕ
-  pub output : o ≡ (before ++ at.output) ++ more
-  pub own : List ℕ
-  pub rest : List ℕ
-  pub messages : reported ++ own ≡ m ++ rest
-  pub makes : (z : List ℕ) (more : Bool) → MayFollow p.may_follow z more → (a b : List ℕ)
-      → (later : List ℕ)
-      × ((made_by (moved (configuration (a ++ before) (b ++ reported) at (longer z more q)))).messages
-      ≡ (b ++ (reported ++ own)) ++ later)
+  pub shown : (z : List ℕ) (more : Bool) → MayFollow p.may_follow z more → (a b : List ℕ)
+      → Shows (so_far_of (a ++ before) (b ++ reported) at)
+      (made_by (moved (configuration (a ++ before) (b ++ reported) at (longer z more q)))) (a ++ o) (b ++ m)
 
 -- nothing was written, or a turn shows what was
 abbrev pub IsMarked : Wanted → Engine → Pending → List ℕ → List ℕ → Type 0

@@ -14,9 +14,9 @@ use Rattle.m4_engine.specs.Expand.{expand_input, expansion_of}
 use Rattle.m4_engine.specs.Engine.{Engine, after_flush}
 use Rattle.m4_engine.specs.Turns.{MayFollow}
 use Rattle.m4_engine.specs.File.{Progress}
-use Rattle.m4_engine.specs.Order.{Breaks}
+use Rattle.m4_engine.specs.Order.{Breaks, IsBeginning}
 use Rattle.m4_engine.specs.Moments.{IsTurnOf}
-use Rattle.m4_engine.specs.Writers.{Contents, Broken, HasTaken, HasWritten, WroteAtLeast}
+use Rattle.m4_engine.specs.Writers.{Contents, Broken, HasWritten, WroteAtLeast}
 
 -- a run so far, if its earlier output and messages were written
 abbrev pub made_before : Engine → RunSoFar
@@ -108,10 +108,14 @@ abbrev pub FlushesPrefix : List ℕ → List ℕ → Contents → Type 0
 FlushesPrefix output messages w =
     HasBegun w.out_old w.out_new output × HasBegun w.messages_old w.messages_new messages
 
--- a message was written only after all output before it, and more output only after all messages
-pub record IsInOrder (before messages : List ℕ) (w : Contents) : Type 0 where
-  pub output_first : (w.messages_new ≡ w.messages_old) ⊎ HasTaken before w
-  pub then_messages : HasBegun w.out_old w.out_new before ⊎ (w.messages_new ≡ with_bytes w.messages_old messages)
+-- a flush failed: a beginning of the output made before a turn was written; or all of that, and a beginning of the
+-- messages; or all messages, and a beginning of the turn's own output
+abbrev pub IsInOrder : List ℕ → List ℕ → List ℕ → Contents → Type 0
+IsInOrder before own messages w =
+    (HasBegun w.out_old w.out_new before × (w.messages_new ≡ w.messages_old))
+    ⊎ (((w.out_new ≡ with_bytes w.out_old before) × HasBegun w.messages_old w.messages_new messages)
+    ⊎ ((x : List ℕ) × IsBeginning x own × (w.out_new ≡ with_bytes w.out_old (before ++ x))
+    × (w.messages_new ≡ with_bytes w.messages_old messages)))
 
 -- prefixes of an engine's output and messages were written, and the rest is still buffered
 pub record FlushesSome (old new : Engine) (w : Contents) : Type 0 where

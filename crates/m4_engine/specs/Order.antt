@@ -1,10 +1,10 @@
--- Order: a message is written only after all output that the run made before it.
+-- Order: output and messages are written in the order in which the run makes them.
 -- Believed. Manual: "How m4 copies input to output", "Command line files", "Saving text until end of input".
--- Words: IsBetween, IsStepOf, InSources, IsTurnOfRound, InRounds, InSomeRound, InEnd, IsStepOfRun, InOrder, InOrderBy,
+-- Words: IsBeginning, Shows, IsBetween, IsStepOf, InSources, IsTurnOfRound, InRounds, InSomeRound, InEnd, IsStepOfRun, InOrder, InOrderBy,
 -- preceded, Breaks, BreaksBy, FileBreaks.
 -- A run is made of steps: the turns of its expansions, and the messages on sources that can't be opened. Where a
--- writer or an allocation fails, one step shows what was written: all output made before it was, and no message that
--- was made after it.
+-- writer or an allocation fails, one step shows what was written: a step makes its messages before its output, and
+-- nothing was written before what was made earlier.
 use Rattle.std.specs.Prelude.{◌≡◌, ◌≢◌, ◌⊎◌, ℕ, zero, suc, false, List, [], ◌∷◌, ◌++◌, Option, None, Result, Err}
 use Rattle.m4_state.specs.Device.{Script, with_bytes, HasBegun}
 use Rattle.m4_engine.specs.declared.ending.Cause.{Cause}
@@ -17,16 +17,30 @@ use Rattle.m4_engine.specs.Expand.{expansion_of}
 use Rattle.m4_engine.specs.Moments.{IsTurnOf}
 use Rattle.m4_engine.specs.File.{Source, Opened, Unopened, Progress, file_pending, cannot_open, after_source}
 use Rattle.m4_engine.specs.File.{after_sources}
-use Rattle.m4_engine.specs.Wraps.{wrapped_pending, joined_back, read_saved, after_wraps}
+use Rattle.m4_engine.specs.Wraps.{wrapped_pending, joined_back, read_saved, after_wraps, close}
 use Rattle.m4_engine.specs.Start.{Start, begun}
 use Rattle.m4_engine.specs.Run.{limits_of}
 use Rattle.m4_engine.specs.Session.{FileRead}
-use Rattle.m4_engine.specs.Writers.{Contents, writers, HasTaken}
+use Rattle.m4_engine.specs.Writers.{Contents, writers, HasWritten}
 
--- all output made before a step was written, and no messages but those made when it is over
+-- y begins with x
+abbrev pub IsBeginning : List ℕ → List ℕ → Type 0
+IsBeginning x y = (rest : List ℕ) × (y ≡ x ++ rest)
+
+-- a step shows that the output o and the messages m were written: a beginning of the output made before it, and the
+-- messages made before it; or all of that output, and some of the step's messages; or all messages made when it is over,
+-- and some of the step's output
+abbrev pub Shows : RunSoFar → RunSoFar → List ℕ → List ℕ → Type 0
+Shows before later o m =
+    (IsBeginning o before.output × (m ≡ before.messages))
+    ⊎ (((o ≡ before.output) × IsBeginning before.messages m × IsBeginning m later.messages)
+    ⊎ (IsBeginning before.output o × IsBeginning o later.output × (m ≡ later.messages)))
+
 pub record IsBetween (before later : RunSoFar) (w : Contents) : Type 0 where
-  pub output : HasTaken before.output w
-  pub messages : HasBegun w.messages_old w.messages_new later.messages
+  pub o : List ℕ
+  pub m : List ℕ
+  pub written : HasWritten o m w
+  pub shown : Shows before later o m
 
 -- a step of a source: a turn of its expansion, or the message that it can't be opened
 abbrev pub IsStepOf : Limits → Source → Progress → RunSoFar → RunSoFar → Type 0
@@ -58,21 +72,22 @@ InRounds (suc n) limits p before later =
 abbrev pub InSomeRound : Limits → Progress → RunSoFar → RunSoFar → Type 0
 InSomeRound limits p before later = (n : ℕ) × InRounds n limits p before later
 
--- a step of the end of a run: a turn of a round, or what comes after all rounds, where no message is made
+-- a step of the end of a run: a turn of a round, or, after all rounds, the output of the texts of the diversions
 abbrev pub InEnd : Limits → Progress → RunSoFar → RunSoFar → Type 0
 InEnd limits p before later =
     InSomeRound limits p before later
-    ⊎ (((after_wraps limits p).over ≡ None) × (before ≡ (after_wraps limits p).so_far) × (later ≡ before))
+    ⊎ (((after_wraps limits p).over ≡ None) × (before ≡ (after_wraps limits p).so_far)
+    × (later ≡ record before { output = before.output ++ close before.state }))
 
 -- a step of a run that was at p before its sources
 abbrev pub IsStepOfRun : Limits → List Source → Progress → RunSoFar → RunSoFar → Type 0
 IsStepOfRun limits ss p before later =
     InSources limits ss p before later ⊎ InEnd limits (after_sources limits ss p) before later
 
--- no message was written, or a step shows what was
+-- only a beginning of what its start issues was written, or a step shows what was
 abbrev pub InOrder : Limits → List Source → Progress → Contents → Type 0
 InOrder limits ss p w =
-    (w.messages_new ≡ w.messages_old)
+    (HasBegun w.out_old w.out_new (p.so_far).output × (w.messages_new ≡ w.messages_old))
     ⊎ ((before : RunSoFar) × (later : RunSoFar) × IsStepOfRun limits ss p before later × IsBetween before later w)
 
 -- by the cause: a run that a writer or an allocation broke off

@@ -1,7 +1,7 @@
 -- Writers: a call's writers before and after it: the bytes of each, and how often it failed.
 -- Believed: each clause on written bytes cites it. Manual: "Invoking m4".
 -- Words: Both, writers, both, Three, three, all_three, Contents, Failures, NoneFailed, OneFailed, NoneOfThree,
--- IsSpared, OneOfThree, ThreeFailBy, Spares, FailsOnce, ByCause, FailsBy, Broken, HasWritten, HasTaken, WroteAtLeast.
+-- IsSpared, OneOfThree, ThreeFailBy, Spares, FailsOnce, ByCause, FailsBy, Broken, HasWritten, WroteAtLeast.
 use Rattle.std.specs.Prelude.{◌≡◌, ℕ, List, ◌++◌, Option, ◌⊎◌, Result, Ok, Err}
 use Rattle.m4_state.specs.Device.{with_bytes, HasBegun, one_more}
 use Rattle.m4_engine.specs.declared.ending.Cause.{Cause}
@@ -111,10 +111,6 @@ pub record Broken (d : Ended) (w : Contents) : Type 0 where
 pub record HasWritten (made reported : List ℕ) (w : Contents) : Type 0 where
   pub output : w.out_new ≡ with_bytes w.out_old made
   pub messages : w.messages_new ≡ with_bytes w.messages_old reported
-
--- this output was written, and perhaps more
-abbrev pub HasTaken : List ℕ → Contents → Type 0
-HasTaken before w = (more : List ℕ) × (w.out_new ≡ with_bytes w.out_old (before ++ more))
 
 -- this output and these messages were written, and perhaps more
 pub record WroteAtLeast (made reported : List ℕ) (w : Contents) : Type 0 where

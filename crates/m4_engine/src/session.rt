@@ -134,7 +134,7 @@ impl Session {
         ensures gives { FileGives name (R.script reader.old) (R.script reader.new) self.old self.new
             (both O.contents M.contents out.old out.new messages.old messages.new)
             result }
-        // in order: if it is broken off, a message was written only if all output was that was made before it
+        // in order: if it is broken off, output and messages were written in the order in which they are made
         ensures order { BreaksBy result (FileBreaks self.old.limits (progress_of self.old) name
             (R.script reader.old) (R.script reader.new)
             (both O.contents M.contents out.old out.new messages.old messages.new)) }
@@ -238,7 +238,7 @@ impl Session {
         ensures gives { FinishGives self.old self.new
             (both O.contents M.contents out.old out.new messages.old messages.new)
             result }
-        // in order: if it is broken off, a message was written only if all output was that was made before it
+        // in order: if it is broken off, output and messages were written in the order in which they are made
         ensures order { BreaksBy result (Breaks (InEnd self.old.limits) (progress_of self.old)
             (both O.contents M.contents out.old out.new messages.old messages.new)) }
         // safe and total: a write fault is returned only if a writer failed in this call
@@ -271,7 +271,7 @@ impl Session {
             (all_three O.contents M.contents Z.contents
             out.old out.new messages.old messages.new freeze_to.old freeze_to.new)
             result }
-        // in order: if it is broken off, a message was written only if all output was that was made before it
+        // in order: if it is broken off, output and messages were written in the order in which they are made
         ensures order { BreaksBy result (Breaks (InEnd self.old.limits) (progress_of self.old)
             (both O.contents M.contents out.old out.new messages.old messages.new)) }
         // safe and total: a write fault is returned only if a writer failed in this call

@@ -1,7 +1,7 @@
 //! Expands an input turn by turn. Messages are flushed as they arise, and output once a block of it is
 //! buffered. Manual: "How m4 copies input to output".
 
-ghost use Rattle.std.specs.Prelude.{◌≡◌, ◌<◌, ◌≤◌, true, None, Ok, length, take, OnOk, OnErr};
+ghost use Rattle.std.specs.Prelude.{◌≡◌, ◌<◌, ◌≤◌, true, None, Ok, length, take, drop, OnOk, OnErr};
 ghost use Rattle.m4_state.specs.Device.{with_bytes, one_more};
 ghost use Rattle.m4_input.specs.Input.{failures_after};
 ghost use Rattle.m4_engine.specs.Engine.{IsReady, after_flush};
@@ -47,8 +47,8 @@ impl Machine {
         ensures output { OnOk result (O.contents out.new ≡ with_bytes (O.contents out.old) self.old.output) }
         ensures messages { OnOk result (M.contents messages.new
             ≡ with_bytes (M.contents messages.old) self.old.messages) }
-        ensures order { OnErr result (IsInOrder (take earlier self.old.output) self.old.messages
-            (both O.contents M.contents out.old out.new messages.old messages.new)) }
+        ensures order { OnErr result (IsInOrder (take earlier self.old.output) (drop earlier self.old.output)
+            self.old.messages (both O.contents M.contents out.old out.new messages.old messages.new)) }
         ensures begun { OnErr result (FlushesPrefix self.old.output self.old.messages
             (both O.contents M.contents out.old out.new messages.old messages.new)) }
         ensures counted { FailsOnce result (both O.failures M.failures out.old out.new messages.old messages.new) }

@@ -62,7 +62,8 @@ returns-in-Err g c =
       one_pass = λ file t. never_passed g.R.ByteSource.script c.args.sources.now c.args.options
           (start_of c.args.options.prefix file) _ c.match-frozen.begun c.in-Err.stop (starts.status_after c.in-Err.stop)
           d (search rules) ends b.begun;
-      order = λ file t ss s. never_told _ c.args.options (start_of c.args.options.prefix file) ss _ refl;
+      order = λ file t ss s. never_told c.args.options (start_of c.args.options.prefix file) ss c.match-frozen.begun
+          c.in-Err.stop (starts.status_after c.in-Err.stop) d _ _ _ (search rules) ends (b.gives file t);
       refused = λ fault e. starts.never_done c.args.sources.now c.args.options c.match-frozen.begun c.in-Err.stop
           (starts.status_after c.in-Err.stop) d fault _ _ _ _ (search rules) refl ends b.begun e (b.refused fault);
       last = λ file t ss s. last_unused d.cause _ _ _ _ refl;

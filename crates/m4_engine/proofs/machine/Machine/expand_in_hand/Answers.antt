@@ -6,7 +6,7 @@ use Rattle.m4_engine.proofs.Begins.{due_none, due_all}
 use Rattle.m4_engine.proofs.Running.{fell_past_line, ended, needed, needs_line_after, write_breaks}
 use Rattle.m4_engine.proofs.Running.{write_breaks_in_order, in_order_end, needs_line}
 use Rattle.m4_engine.proofs.Running.{line_done_by, hand_ends, lack_gives, lack_gives_in_order, lack_counted}
-use Rattle.m4_engine.proofs.Passing.{passes_ready}
+use Rattle.m4_engine.proofs.Passing.{passes_ready, passes_messages}
 use Rattle.m4_engine.specs.Engine.{Engine}
 use Rattle.m4_engine.proofs.machine.Machine.expand_in_hand.Goals.{in_default-via-in-Token-1, in_default-via-in-Line+else-not-skip_in_hand}
 use Rattle.m4_engine.proofs.machine.Machine.expand_in_hand.Goals as goal
@@ -126,7 +126,10 @@ returns-then-not-skip_in_hand-2-clause-gives g c =
     needs_line_after c.args.wanted c.args.self.now c.pass_plain.new.self c.turn.new.self c.flush.new.self
     c.args.input.now.pending c.args.input.now c.pass_plain.new.input c.turn.new.input c.skip_in_hand-in-SkipsLine.new.self _ _
     _ _ _ _ c.in-Ok-turn.turned refl r c.in-Ok-turn.ensures.turns.moves c.in-Ok-turn.ensures.turns.ready c.in-SkipsLine.is
-    c.in-Ok-turn.ensures.turns.limits c.in_default-flush.ensures.engine c.in_default-flush.ensures.output
+    c.in-Ok-turn.ensures.turns.limits
+    (passes_messages c.turns.self c.pass_plain.new.self c.turns.input c.pass_plain.new.input c.in-Ok.ensures.passes
+    ∙ c.turns.invariant.quiet)
+    c.in_default-flush.ensures.engine c.in_default-flush.ensures.output
     c.in_default-flush.ensures.messages
     (line_done_by c.turn.new.input c.skip_in_hand-in-SkipsLine.new.self c.skip_in_hand-in-SkipsLine.result false (search rules)
     c.skip_in_hand-in-SkipsLine.ensures)
@@ -184,8 +187,10 @@ returns-in-Err-clause-order g c =
     c.turns.input c.pass_plain.new.input _ _ _ _ c.turns.invariant.runs c.in-Ok.ensures.passes in
     write_breaks_in_order c.args.wanted c.args.self.now c.pass_plain.new.self c.turn.new.self c.args.input.now.pending
     c.pass_plain.new.input c.turn.new.input c.in-Ok-turn.turned c.len-earlier.result _ _ _ _ _ _ r
-    c.in-Ok-turn.ensures.turns.moves c.in-Ok-turn.ensures.turns.made (search rules) c.in-Err.ensures.order
-    c.in-Err.ensures.begun
+    c.in-Ok-turn.ensures.turns.moves c.in-Ok-turn.ensures.turns.made
+    (passes_messages c.turns.self c.pass_plain.new.self c.turns.input c.pass_plain.new.input c.in-Ok.ensures.passes
+    ∙ c.turns.invariant.quiet)
+    (search rules) c.in-Err.ensures.order
 
 pub returns-in-Ends-clause-order : goal.returns-in-Ends-clause-order
 returns-in-Ends-clause-order g c = rw c.cause.ensures (in_order_end c.args.wanted c.args.self.now c.args.input.now.pending _ c.in-Ends.end)
@@ -193,7 +198,7 @@ returns-in-Ends-clause-order g c = rw c.cause.ensures (in_order_end c.args.wante
 pub returns-in_default-clause-order : goal.returns-in_default-clause-order
 returns-in_default-clause-order g c = lack_gives_in_order c.args.wanted c.args.self.now c.turns.self
     c.pass_plain.new.self c.args.input.now.pending c.turns.input c.len-made.result _ _ _ _ _ c.give_out.result
-    c.turns.invariant.runs (search rules) c.in_default-2.ensures.kept c.give_out.ensures.gives
+    c.turns.invariant.runs c.turns.invariant.quiet (search rules) c.in_default-2.ensures.kept c.give_out.ensures.gives
 
 pub returns-in_default-turn-clause-order : goal.returns-in_default-turn-clause-order
 returns-in_default-turn-clause-order g c =
@@ -201,7 +206,10 @@ returns-in_default-turn-clause-order g c =
     c.turns.input c.pass_plain.new.input _ _ _ _ c.turns.invariant.runs c.in-Ok.ensures.passes in
     lack_gives_in_order c.args.wanted c.args.self.now c.pass_plain.new.self c.turn.new.self c.args.input.now.pending
     c.pass_plain.new.input c.len-earlier.result _ _ _ _ _ c.give_out-in_default-turn.result
-    r (search rules) c.in_default-turn.ensures.kept c.give_out-in_default-turn.ensures.gives
+    r
+    (passes_messages c.turns.self c.pass_plain.new.self c.turns.input c.pass_plain.new.input c.in-Ok.ensures.passes
+    ∙ c.turns.invariant.quiet)
+    (search rules) c.in_default-turn.ensures.kept c.give_out-in_default-turn.ensures.gives
 
 pub returns-in_default-clause-counted : goal.returns-in_default-clause-counted
 returns-in_default-clause-counted g c = lack_counted _ _ _ c.give_out.result _ _ _ _ _ c.give_out.ensures.gives

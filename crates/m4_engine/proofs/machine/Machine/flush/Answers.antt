@@ -1,4 +1,4 @@
-use Rattle.std.proofs.Common.{◌≡◌, ◌≤◌, ◌⊎◌, inl, inr, [], drop, rules, arith}
+use Rattle.std.proofs.Common.{◌≡◌, ◌≤◌, ◌⊎◌, inl, inr, [], rules, arith}
 use Rattle.std.proofs.lemmas.List.{nil_from_length}
 use Rattle.std.proofs.lemmas.Grind.{common_steps}
 use Rattle.std.specs.Prelude.{Result, Ok, Err, OnErr}
@@ -27,7 +27,6 @@ returns-in_err-write_all-clause-begun g c =
 
 pub returns-in_err-write_all-2-clause-order : goal.returns-in_err-write_all-2-clause-order
 returns-in_err-write_all-2-clause-order g c =
-    let no_less : c.args.earlier ≤ c.if-is_empty.first = elim c.if-is_empty.branch [ then-is_empty w ↦ search rules | else-is_empty w ↦ search rules ] in
     let reported : (c.args.self.now.messages ≡ []) ⊎ (c.args.earlier ≡ c.if-is_empty.first) =
     elim c.if-is_empty.branch [
       | then-is_empty w ↦ inl (nil_from_length c.args.self.now.messages (search rules))
@@ -35,7 +34,7 @@ returns-in_err-write_all-2-clause-order g c =
     ] in
     in_any c.from_residual-in_err-write_all-2.result
     (messages_break _ _ _ _ c.args.earlier c.if-is_empty.first c.args.self.now.output c.args.self.now.messages
-    no_less reported (search rules) (search rules))
+    reported (search rules) (search rules))
 
 pub returns-in_err-write_all-2-clause-begun : goal.returns-in_err-write_all-2-clause-begun
 returns-in_err-write_all-2-clause-begun g c =
@@ -47,8 +46,7 @@ returns-in_err-write_all-3-clause-order g c =
     let no_less : c.args.earlier ≤ c.if-is_empty.first = elim c.if-is_empty.branch [ then-is_empty w ↦ search rules | else-is_empty w ↦ search rules ] in
     in_any c.from_residual-in_err-write_all-3.result
     (own_breaks _ (g.O.ByteSink.contents c.write_all.new.writer) _ _ _ c.args.earlier c.if-is_empty.first
-    c.args.self.now.output (drop c.if-is_empty.first c.args.self.now.output) c.args.self.now.messages no_less
-    (search rules) (search rules) (search rules))
+    c.args.self.now.output c.args.self.now.messages no_less (search rules) (search rules) (search rules))
 
 pub returns-in_err-write_all-3-clause-begun : goal.returns-in_err-write_all-3-clause-begun
 returns-in_err-write_all-3-clause-begun g c =

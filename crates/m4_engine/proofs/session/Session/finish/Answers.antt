@@ -1,7 +1,6 @@
 use Rattle.std.proofs.Common.{rules, refl}
 use Rattle.std.specs.Prelude.{Ok}
 use Rattle.m4_engine.specs.Session.{IsOpen}
-use Rattle.m4_engine.specs.Wraps.{close}
 use Rattle.m4_engine.proofs.Sessions.{finish_broke, issued_all}
 use Rattle.m4_engine.proofs.Wrapping.{finish_then, finish_stops, gone_on}
 use Rattle.m4_engine.proofs.Ordering.{any_breaks, same_breaks, rounds_end, end_breaks}
@@ -38,5 +37,5 @@ returns-in_err-read_saved-clause-order g c =
 
 pub returns-in-Err-clause-order : goal.returns-in-Err-clause-order
 returns-in-Err-clause-order g c = any_breaks {A = Unit} c.settle.result _
-    (end_breaks c.args.self.now c.read_saved.new.self _ _ _ _ _ (close c.read_saved.new.self.state)
+    (end_breaks c.args.self.now c.read_saved.new.self _ _ _ _ _
     c.in_ok-read_saved.ensures.goes.0 (search rules))

@@ -1,4 +1,4 @@
-use Rattle.std.proofs.Common.{rules, [], refl}
+use Rattle.std.proofs.Common.{rules, refl}
 use Rattle.std.specs.Prelude.{Ok}
 use Rattle.m4_engine.specs.Session.{IsOpen}
 use Rattle.m4_engine.proofs.Sessions.{froze, freeze_began, freeze_broke}
@@ -41,12 +41,12 @@ returns-in_err-read_saved-clause-order g c =
 pub returns-in-Err-Write-clause-order : goal.returns-in-Err-Write-clause-order
 returns-in-Err-Write-clause-order g c =
     any_breaks {A = Unit} c.settle.result _
-    (end_breaks c.args.self.now c.read_saved.new.self _ _ _ _ _ [] c.in_ok-read_saved.ensures.goes.0 (nothing_begun _ []))
+    (end_breaks c.args.self.now c.read_saved.new.self _ _ _ _ _ c.in_ok-read_saved.ensures.goes.0 (nothing_begun _ _))
 
 pub returns-in-Err-OutOfMemory-clause-order : goal.returns-in-Err-OutOfMemory-clause-order
 returns-in-Err-OutOfMemory-clause-order g c =
     any_breaks {A = Unit} c.settle-in-Err-OutOfMemory.result _
-    (end_breaks c.args.self.now c.read_saved.new.self _ _ _ _ _ [] c.in_ok-read_saved.ensures.goes.0 (nothing_begun _ []))
+    (end_breaks c.args.self.now c.read_saved.new.self _ _ _ _ _ c.in_ok-read_saved.ensures.goes.0 (nothing_begun _ _))
 
 pub returns-in_err-read_saved-clause-last : goal.returns-in_err-read_saved-clause-last
 returns-in_err-read_saved-clause-last g c = uses_none _ _ _ _ c.from_residual.result refl
