@@ -5,6 +5,14 @@
 //! from the manual of GNU M4 and from the frozen file format.
 #![tactic(auto)]
 
+/// Expands to a table of rows: each has its columns, and after an arrow the last one, which is expected.
+#[cfg(test)]
+macro_rules! rows {
+    ($($($column:expr),+ => $want:expr;)*) => {
+        [$(($($column,)+ $want)),*]
+    };
+}
+
 #[cfg(test)]
 mod builtins;
 #[cfg(test)]

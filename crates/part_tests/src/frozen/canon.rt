@@ -12,87 +12,31 @@ use std::test::Fail;
 // that is issued.
 type Row = (&'static str, &'static [u8], &'static [u8], &'static [u8]);
 
-static ROWS: [Row; 14] = [
-    ("no directives", b"V1\n", b"", b""),
-    (
-        "names in byte order, the oldest definition first",
-        b"V1\nT1,1\nbx\nT1,1\nay\nT1,1\nbz\n",
-        b"T1,1\nay\nT1,1\nbx\nT1,1\nbz\n",
-        b"",
-    ),
-    (
-        "quotes with no end, and no comments",
-        b"V1\nQ1,0\n[\nC0,1\n#\n",
-        b"Q1,1\n['\nC0,0\n\n",
-        b"",
-    ),
-    (
-        "a text with a newline and a number sign",
-        b"V1\nT2,3\na\n# b\n",
-        b"T2,3\na\n# b\n",
-        b"",
-    ),
-    (
-        "quotes that are set and set back, and a comment with no newline",
-        b"V1\nQ1,1\n[]\nQ1,1\n`'\n# c",
-        b"",
-        b"",
-    ),
-    (
-        "blanks and zeros in a length",
-        b"V1\nT1 , 01\nab\n",
-        b"T1,1\nab\n",
-        b"",
-    ),
-    (
-        "tabs before numbers and before a comma",
-        b"V\t1\nT1\t,\t1\nab\n",
-        b"T1,1\nab\n",
-        b"",
-    ),
-    (
-        "comments that are the usual ones, empty lines, a builtin and a placeholder",
+static ROWS: [Row; 14] = rows! {
+    "no directives", b"V1\n", b"" => b"";
+    "names in byte order, the oldest definition first",
+        b"V1\nT1,1\nbx\nT1,1\nay\nT1,1\nbz\n", b"T1,1\nay\nT1,1\nbx\nT1,1\nbz\n" => b"";
+    "quotes with no end, and no comments", b"V1\nQ1,0\n[\nC0,1\n#\n", b"Q1,1\n['\nC0,0\n\n" => b"";
+    "a text with a newline and a number sign", b"V1\nT2,3\na\n# b\n", b"T2,3\na\n# b\n" => b"";
+    "quotes that are set and set back, and a comment with no newline", b"V1\nQ1,1\n[]\nQ1,1\n`'\n# c", b"" => b"";
+    "blanks and zeros in a length", b"V1\nT1 , 01\nab\n", b"T1,1\nab\n" => b"";
+    "tabs before numbers and before a comma", b"V\t1\nT1\t,\t1\nab\n", b"T1,1\nab\n" => b"";
+    "comments that are the usual ones, empty lines, a builtin and a placeholder",
         b"# any\nV1\nC1,1\n#\n\n\n\nF3,3\ndnldnl\nF6,6\nformatformat\n# End of frozen state file\n",
-        b"F3,3\ndnldnl\nF6,6\nformatformat\n",
-        b"",
-    ),
-    (
-        "diversions, and text that is issued",
-        b"V1\nD0,2\nab\nD0,1\nc\nD2,1\nx\nD2,1\ny\nD-1,2\nzz\n",
-        b"D2,2\nxy\nD-1,0\n\n",
-        b"abc",
-    ),
-    (
-        "a placeholder alone, under its name and another one",
-        b"V1\nF6,6\nregexpregexp\nF2,6\nreregexp\n",
-        b"F2,6\nreregexp\nF6,6\nregexpregexp\n",
-        b"",
-    ),
-    (
-        "a builtin and a text, which comes first by its name",
-        b"V1\nF6,6\ndefinedefine\nT1,1\nab\n",
-        b"T1,1\nab\nF6,6\ndefinedefine\n",
-        b"",
-    ),
-    (
-        "diversions out of their order, of which the last is current",
-        b"V1\nD2,4\ntwo\n\nD1,4\none\n\nD2,0\n\n",
-        b"D1,4\none\n\nD2,4\ntwo\n\n",
-        b"",
-    ),
-    (
-        "text that is issued alone",
-        b"V1\nD0,3\nhi\n\n",
-        b"",
-        b"hi\n",
-    ),
-    (
-        "names and texts of the least and the greatest byte",
+        b"F3,3\ndnldnl\nF6,6\nformatformat\n" => b"";
+    "diversions, and text that is issued",
+        b"V1\nD0,2\nab\nD0,1\nc\nD2,1\nx\nD2,1\ny\nD-1,2\nzz\n", b"D2,2\nxy\nD-1,0\n\n" => b"abc";
+    "a placeholder alone, under its name and another one",
+        b"V1\nF6,6\nregexpregexp\nF2,6\nreregexp\n", b"F2,6\nreregexp\nF6,6\nregexpregexp\n" => b"";
+    "a builtin and a text, which comes first by its name",
+        b"V1\nF6,6\ndefinedefine\nT1,1\nab\n", b"T1,1\nab\nF6,6\ndefinedefine\n" => b"";
+    "diversions out of their order, of which the last is current",
+        b"V1\nD2,4\ntwo\n\nD1,4\none\n\nD2,0\n\n", b"D1,4\none\n\nD2,4\ntwo\n\n" => b"";
+    "text that is issued alone", b"V1\nD0,3\nhi\n\n", b"" => b"hi\n";
+    "names and texts of the least and the greatest byte",
         b"V1\nT2,2\n\x00\xff\xff\x00\nT1,0\n\xff\nT1,1\n\x00\x00\n",
-        b"T1,1\n\x00\x00\nT2,2\n\x00\xff\xff\x00\nT1,0\n\xff\n",
-        b"",
-    ),
-];
+        b"T1,1\n\x00\x00\nT2,2\n\x00\xff\xff\x00\nT1,0\n\xff\n" => b"";
+};
 
 // Returns a complete canonical text, with these bytes between its first two lines and its last one,
 // and the text that is issued.
@@ -150,12 +94,12 @@ fn a_block_ends_at_each_byte(rt: HostRuntime) {
 }
 
 // The letter of a name, its length, and that of its text: about the lengths from which on a string is kept otherwise.
-static LENGTHS: [(u8, usize, usize); 4] = [
-    (b'a', 30, 31),
-    (b'b', 31, 30),
-    (b'c', 64, 65),
-    (b'd', 65, 1000),
-];
+static LENGTHS: [(u8, usize, usize); 4] = rows! {
+    b'a', 30 => 31;
+    b'b', 31 => 30;
+    b'c', 64 => 65;
+    b'd', 65 => 1000;
+};
 
 // Returns the directives of these names and texts.
 fn texts_of_each_length(alloc: Global) -> Result<Vec<u8>, AllocError> {
@@ -190,15 +134,15 @@ fn strings_of_each_length_cross_a_block(rt: HostRuntime) -> Result<(), Fail> {
 }
 
 // Lengths of four digits to six: such texts are parts of their block, read again with the next one, or as they arrive.
-static LONG_LENGTHS: [(u8, usize); 7] = [
-    (b'a', 9_999),
-    (b'b', 10_000),
-    (b'c', 60_000),
-    (b'd', 32_768),
-    (b'e', 65_537),
-    (b'f', 99_999),
-    (b'g', 100_000),
-];
+static LONG_LENGTHS: [(u8, usize); 7] = rows! {
+    b'a' => 9_999;
+    b'b' => 10_000;
+    b'c' => 60_000;
+    b'd' => 32_768;
+    b'e' => 65_537;
+    b'f' => 99_999;
+    b'g' => 100_000;
+};
 
 // How many bytes of these directives the first block has.
 static CUTS: [usize; 12] = [

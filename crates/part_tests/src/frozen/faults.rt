@@ -13,190 +13,49 @@ use std::process::Abort;
 type Row = (&'static str, &'static str, bool, FrozenKind, usize);
 
 // Versions, and their lack.
-static VERSIONS: [Row; 6] = [
-    ("an empty file", "", false, FrozenKind::NoVersion, 0),
-    ("no version", "T0,0\n\n", false, FrozenKind::NoVersion, 0),
-    (
-        "a newer version after a comment and an empty line",
-        "# c\n\nV2\n",
-        false,
-        FrozenKind::Newer,
-        6,
-    ),
-    (
-        "a newer version before a wrong byte",
-        "V2x",
-        false,
-        FrozenKind::Newer,
-        1,
-    ),
-    (
-        "version 0 with no newline",
-        "V0",
-        false,
-        FrozenKind::VersionZero,
-        1,
-    ),
-    (
-        "a second version",
-        "V1\nV1\n",
-        false,
-        FrozenKind::SecondVersion,
-        3,
-    ),
-];
+static VERSIONS: [Row; 6] = rows! {
+    "an empty file", "", false, FrozenKind::NoVersion => 0;
+    "no version", "T0,0\n\n", false, FrozenKind::NoVersion => 0;
+    "a newer version after a comment and an empty line", "# c\n\nV2\n", false, FrozenKind::Newer => 6;
+    "a newer version before a wrong byte", "V2x", false, FrozenKind::Newer => 1;
+    "version 0 with no newline", "V0", false, FrozenKind::VersionZero => 1;
+    "a second version", "V1\nV1\n", false, FrozenKind::SecondVersion => 3;
+};
 
 // What is wrong in a directive or after it.
-static DIRECTIVES: [Row; 14] = [
-    (
-        "a letter that begins no directive",
-        "V1\nX",
-        false,
-        FrozenKind::UnknownDirective,
-        3,
-    ),
-    (
-        "a line that is a blank",
-        "V1\n \n",
-        false,
-        FrozenKind::UnknownDirective,
-        3,
-    ),
-    (
-        "a letter after a diversion's text",
-        "V1\nD0,3\nhi\n\nX\n",
-        false,
-        FrozenKind::UnknownDirective,
-        12,
-    ),
-    (
-        "a negative length",
-        "V1\nT-1,0\n\n",
-        false,
-        FrozenKind::DigitExpected,
-        4,
-    ),
-    (
-        "a diversion's number above 2^31 - 1",
-        "V1\nD2147483648,0\n\n",
-        false,
-        FrozenKind::NumberTooLarge,
-        4,
-    ),
-    (
-        "a diversion's number below -2^31",
-        "V1\nD-2147483649,0\n\n",
-        false,
-        FrozenKind::NumberTooLarge,
-        4,
-    ),
-    (
-        "a length above 2^64 - 1",
-        "V1\nT1,18446744073709551616\na",
-        false,
-        FrozenKind::NumberTooLarge,
-        6,
-    ),
-    (
-        "the greatest length, for a text after a name",
-        "V1\nT1,18446744073709551615\na",
-        false,
-        FrozenKind::PrematureEnd,
-        28,
-    ),
-    (
-        "the greatest length, for a text that begins",
-        "V1\nT1,18446744073709551615\nabc",
-        false,
-        FrozenKind::PrematureEnd,
-        30,
-    ),
-    (
-        "a blank after the version",
-        "V1 \n",
-        false,
-        FrozenKind::SeparatorExpected,
-        2,
-    ),
-    (
-        "a letter after the version",
-        "V1x",
-        false,
-        FrozenKind::SeparatorExpected,
-        2,
-    ),
-    (
-        "a newline before a comma",
-        "V1\nT1\n,1\nab\n",
-        false,
-        FrozenKind::SeparatorExpected,
-        5,
-    ),
-    (
-        "a text longer than its length",
-        "V1\nT1,1\nabc\n",
-        false,
-        FrozenKind::SeparatorExpected,
-        10,
-    ),
-    (
-        "the version alone",
-        "V1",
-        false,
-        FrozenKind::PrematureEnd,
-        2,
-    ),
-];
+static DIRECTIVES: [Row; 14] = rows! {
+    "a letter that begins no directive", "V1\nX", false, FrozenKind::UnknownDirective => 3;
+    "a line that is a blank", "V1\n \n", false, FrozenKind::UnknownDirective => 3;
+    "a letter after a diversion's text", "V1\nD0,3\nhi\n\nX\n", false, FrozenKind::UnknownDirective => 12;
+    "a negative length", "V1\nT-1,0\n\n", false, FrozenKind::DigitExpected => 4;
+    "a diversion's number above 2^31 - 1", "V1\nD2147483648,0\n\n", false, FrozenKind::NumberTooLarge => 4;
+    "a diversion's number below -2^31", "V1\nD-2147483649,0\n\n", false, FrozenKind::NumberTooLarge => 4;
+    "a length above 2^64 - 1", "V1\nT1,18446744073709551616\na", false, FrozenKind::NumberTooLarge => 6;
+    "the greatest length, for a text after a name",
+        "V1\nT1,18446744073709551615\na", false, FrozenKind::PrematureEnd => 28;
+    "the greatest length, for a text that begins",
+        "V1\nT1,18446744073709551615\nabc", false, FrozenKind::PrematureEnd => 30;
+    "a blank after the version", "V1 \n", false, FrozenKind::SeparatorExpected => 2;
+    "a letter after the version", "V1x", false, FrozenKind::SeparatorExpected => 2;
+    "a newline before a comma", "V1\nT1\n,1\nab\n", false, FrozenKind::SeparatorExpected => 5;
+    "a text longer than its length", "V1\nT1,1\nabc\n", false, FrozenKind::SeparatorExpected => 10;
+    "the version alone", "V1", false, FrozenKind::PrematureEnd => 2;
+};
 
 // A reader that failed.
-static FAILED: [Row; 10] = [
-    (
-        "failed after a directive",
-        "V1\nT1,1\nab\n",
-        true,
-        FrozenKind::Read,
-        11,
-    ),
-    ("failed in a length", "V1\nT1", true, FrozenKind::Read, 5),
-    ("failed after the version", "V1", true, FrozenKind::Read, 2),
-    ("failed after version 0", "V0", true, FrozenKind::Read, 2),
-    ("failed at once", "", true, FrozenKind::Read, 0),
-    (
-        "version 0 before the failure",
-        "V0\n",
-        true,
-        FrozenKind::VersionZero,
-        1,
-    ),
-    (
-        "a wrong letter before the failure",
-        "V1\nX",
-        true,
-        FrozenKind::UnknownDirective,
-        3,
-    ),
-    (
-        "a newer version before the failure",
-        "V2",
-        true,
-        FrozenKind::Newer,
-        1,
-    ),
-    (
-        "a length above 2^64 - 1 before the failure",
-        "V1\nT18446744073709551616",
-        true,
-        FrozenKind::NumberTooLarge,
-        4,
-    ),
-    (
-        "a text longer than its length before the failure",
-        "V1\nT1,1\nabc",
-        true,
-        FrozenKind::SeparatorExpected,
-        10,
-    ),
-];
+static FAILED: [Row; 10] = rows! {
+    "failed after a directive", "V1\nT1,1\nab\n", true, FrozenKind::Read => 11;
+    "failed in a length", "V1\nT1", true, FrozenKind::Read => 5;
+    "failed after the version", "V1", true, FrozenKind::Read => 2;
+    "failed after version 0", "V0", true, FrozenKind::Read => 2;
+    "failed at once", "", true, FrozenKind::Read => 0;
+    "version 0 before the failure", "V0\n", true, FrozenKind::VersionZero => 1;
+    "a wrong letter before the failure", "V1\nX", true, FrozenKind::UnknownDirective => 3;
+    "a newer version before the failure", "V2", true, FrozenKind::Newer => 1;
+    "a length above 2^64 - 1 before the failure", "V1\nT18446744073709551616", true, FrozenKind::NumberTooLarge =>
+        4;
+    "a text longer than its length before the failure", "V1\nT1,1\nabc", true, FrozenKind::SeparatorExpected => 10;
+};
 
 // Returns a fault as text.
 fn fault_text(alloc: Global, kind: FrozenKind, offset: usize) -> Result<Vec<u8>, AllocError> {
@@ -325,25 +184,25 @@ fn a_reader_fails_after_each_byte(rt: HostRuntime) {
 }
 
 // Each kind and its text, as a message prints it.
-static TEXTS: [(FrozenKind, &str); 11] = [
-    (FrozenKind::NoVersion, "F1 NoVersion"),
-    (FrozenKind::Newer, "F2 Newer"),
-    (FrozenKind::VersionZero, "F3 VersionZero"),
-    (FrozenKind::SecondVersion, "F4 SecondVersion"),
-    (FrozenKind::UnknownDirective, "F5 UnknownDirective"),
-    (FrozenKind::DigitExpected, "F6 DigitExpected"),
-    (FrozenKind::NumberTooLarge, "F7 NumberTooLarge"),
-    (FrozenKind::SeparatorExpected, "F8 SeparatorExpected"),
-    (FrozenKind::PrematureEnd, "F9 PrematureEnd"),
-    (FrozenKind::Read, "F10 Read"),
-    (FrozenKind::OutOfMemory, "F11 OutOfMemory"),
-];
+static TEXTS: [(FrozenKind, &str); 11] = rows! {
+    FrozenKind::NoVersion => "F1 NoVersion";
+    FrozenKind::Newer => "F2 Newer";
+    FrozenKind::VersionZero => "F3 VersionZero";
+    FrozenKind::SecondVersion => "F4 SecondVersion";
+    FrozenKind::UnknownDirective => "F5 UnknownDirective";
+    FrozenKind::DigitExpected => "F6 DigitExpected";
+    FrozenKind::NumberTooLarge => "F7 NumberTooLarge";
+    FrozenKind::SeparatorExpected => "F8 SeparatorExpected";
+    FrozenKind::PrematureEnd => "F9 PrematureEnd";
+    FrozenKind::Read => "F10 Read";
+    FrozenKind::OutOfMemory => "F11 OutOfMemory";
+};
 
 // The same for texts that were not written completely.
-static WRITE_TEXTS: [(WriteFault, &str); 2] = [
-    (WriteFault::Write, "G1 Write"),
-    (WriteFault::OutOfMemory, "G2 OutOfMemory"),
-];
+static WRITE_TEXTS: [(WriteFault, &str); 2] = rows! {
+    WriteFault::Write => "G1 Write";
+    WriteFault::OutOfMemory => "G2 OutOfMemory";
+};
 
 #[test]
 fn faults_are_printed(rt: HostRuntime) {

@@ -25,28 +25,13 @@ enum Step {
 
 // A row's name, the steps from an empty state, and the canonical text without its first two lines and
 // its last one.
-static ROWS: [(&str, &[Step], &str); 2] = [
-    (
-        "a text and a diversion that is not the current one",
-        &[
-            Step::Define("a", "b"),
-            Step::Divert(3, "later"),
-            Step::Divert(0, ""),
-        ],
-        "T1,1\nab\nD3,5\nlater\nD0,0\n\n",
-    ),
-    (
-        "a name that was undefined and defined again",
-        &[
-            Step::Define("b", "B"),
-            Step::Define("a", "A"),
-            Step::Define("c", "C"),
-            Step::Undefine("b"),
-            Step::Define("b", "B"),
-        ],
-        "T1,1\naA\nT1,1\nbB\nT1,1\ncC\n",
-    ),
-];
+static ROWS: [(&str, &[Step], &str); 2] = rows! {
+    "a text and a diversion that is not the current one",
+        &[Step::Define("a", "b"), Step::Divert(3, "later"), Step::Divert(0, "")] =>
+        "T1,1\nab\nD3,5\nlater\nD0,0\n\n";
+    "a name that was undefined and defined again", &[Step::Define("b", "B"), Step::Define("a", "A"),
+        Step::Define("c", "C"), Step::Undefine("b"), Step::Define("b", "B")] => "T1,1\naA\nT1,1\nbB\nT1,1\ncC\n";
+};
 
 // Performs a step.
 fn do_step(alloc: Global, state: &mut State, step: Step) -> Result<(), StateFault> {

@@ -28,127 +28,33 @@ enum Step {
 // A row's name, the steps from an empty state, and the results, a line for each.
 type Row = (&'static str, &'static [Step], &'static str);
 
-static DIVERTED: [Row; 4] = [
-    (
-        "an empty state",
-        &[Step::Current, Step::Above(0), Step::TakeLeast],
-        "0\nnone\nnone\n",
-    ),
-    (
-        "the number that was diverted to last is the current one",
-        &[
-            Step::Divert(7, "b"),
-            Step::Current,
-            Step::Divert(-1, "x"),
-            Step::Current,
-            Step::Divert(0, "y"),
-            Step::Current,
-            Step::Divert(5, "a"),
-            Step::Current,
-        ],
-        "7\n-1\n0\n5\n",
-    ),
-    (
-        "texts by their numbers",
-        &[
-            Step::Divert(7, "b"),
-            Step::Divert(-1, "x"),
-            Step::Divert(0, "y"),
-            Step::Divert(5, "a"),
-            Step::Divert(7, "c"),
-            Step::Divert(3, ""),
-            Step::Text(7),
-            Step::Text(5),
-            Step::Text(3),
-            Step::Text(0),
-            Step::Text(-1),
-            Step::Above(0),
-            Step::Above(-2147483648),
-            Step::Above(5),
-            Step::Above(7),
-        ],
-        "bc\na\n\n\n\n5\n5\n7\nnone\n",
-    ),
-    (
-        "diversions are taken by rising number",
-        &[
-            Step::Divert(7, "b"),
-            Step::Divert(5, "a"),
-            Step::Divert(7, "c"),
-            Step::TakeLeast,
-            Step::Above(0),
-            Step::TakeLeast,
-            Step::TakeLeast,
-        ],
-        "5 a\n7\n7 bc\nnone\n",
-    ),
-];
+static DIVERTED: [Row; 4] = rows! {
+    "an empty state", &[Step::Current, Step::Above(0), Step::TakeLeast] => "0\nnone\nnone\n";
+    "the number that was diverted to last is the current one", &[Step::Divert(7, "b"), Step::Current,
+        Step::Divert(-1, "x"), Step::Current, Step::Divert(0, "y"), Step::Current, Step::Divert(5, "a"),
+        Step::Current] => "7\n-1\n0\n5\n";
+    "texts by their numbers", &[Step::Divert(7, "b"), Step::Divert(-1, "x"), Step::Divert(0, "y"), Step::Divert(5,
+        "a"), Step::Divert(7, "c"), Step::Divert(3, ""), Step::Text(7), Step::Text(5), Step::Text(3), Step::Text(0),
+        Step::Text(-1), Step::Above(0), Step::Above(-2147483648), Step::Above(5), Step::Above(7)] =>
+        "bc\na\n\n\n\n5\n5\n7\nnone\n";
+    "diversions are taken by rising number", &[Step::Divert(7, "b"), Step::Divert(5, "a"), Step::Divert(7, "c"),
+        Step::TakeLeast, Step::Above(0), Step::TakeLeast, Step::TakeLeast] => "5 a\n7\n7 bc\nnone\n";
+};
 
-static BROUGHT_BACK: [Row; 6] = [
-    (
-        "to the output",
-        &[
-            Step::Divert(7, "b"),
-            Step::Divert(0, ""),
-            Step::Undivert(7),
-            Step::Text(7),
-            Step::Above(0),
-            Step::Undivert(7),
-        ],
-        "b\n\nnone\nnone\n",
-    ),
-    (
-        "to another diversion",
-        &[
-            Step::Divert(7, "b"),
-            Step::Divert(5, "a"),
-            Step::Undivert(7),
-            Step::Text(5),
-            Step::Text(7),
-            Step::Above(5),
-        ],
-        "none\nab\n\nnone\n",
-    ),
-    (
-        "to another diversion that holds nothing yet",
-        &[
-            Step::Divert(7, "b"),
-            Step::Divert(9, ""),
-            Step::Undivert(7),
-            Step::Text(9),
-            Step::Above(0),
-        ],
-        "none\nb\n9\n",
-    ),
-    (
-        "to nowhere",
-        &[
-            Step::Divert(7, "b"),
-            Step::Divert(-1, ""),
-            Step::Undivert(7),
-            Step::Text(7),
-            Step::Above(0),
-        ],
-        "none\n\nnone\n",
-    ),
-    (
-        "not the current one",
-        &[Step::Divert(7, "b"), Step::Undivert(7), Step::Text(7)],
-        "none\nb\n",
-    ),
-    (
-        "none that holds no text",
-        &[
-            Step::Divert(7, "b"),
-            Step::Divert(0, ""),
-            Step::Undivert(0),
-            Step::Undivert(-7),
-            Step::Undivert(6),
-            Step::Text(7),
-        ],
-        "none\nnone\nnone\nb\n",
-    ),
-];
+static BROUGHT_BACK: [Row; 6] = rows! {
+    "to the output", &[Step::Divert(7, "b"), Step::Divert(0, ""), Step::Undivert(7), Step::Text(7), Step::Above(0),
+        Step::Undivert(7)] => "b\n\nnone\nnone\n";
+    "to another diversion", &[Step::Divert(7, "b"), Step::Divert(5, "a"), Step::Undivert(7), Step::Text(5),
+        Step::Text(7), Step::Above(5)] => "none\nab\n\nnone\n";
+    "to another diversion that holds nothing yet",
+        &[Step::Divert(7, "b"), Step::Divert(9, ""), Step::Undivert(7), Step::Text(9), Step::Above(0)] =>
+        "none\nb\n9\n";
+    "to nowhere", &[Step::Divert(7, "b"), Step::Divert(-1, ""), Step::Undivert(7), Step::Text(7), Step::Above(0)] =>
+        "none\n\nnone\n";
+    "not the current one", &[Step::Divert(7, "b"), Step::Undivert(7), Step::Text(7)] => "none\nb\n";
+    "none that holds no text", &[Step::Divert(7, "b"), Step::Divert(0, ""), Step::Undivert(0), Step::Undivert(-7),
+        Step::Undivert(6), Step::Text(7)] => "none\nnone\nnone\nb\n";
+};
 
 // Adds a number, or that there is none.
 fn describe(number: Option<i32>, report: &mut Report) {

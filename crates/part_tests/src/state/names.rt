@@ -33,112 +33,44 @@ enum Step {
 type Row = (&'static str, &'static [Step], &'static str);
 
 // The order of names.
-static ORDERS: [Row; 3] = [
-    ("an empty state", &[Step::Look("a")], "a\n"),
-    (
-        "a name that is defined again has its place in the order again",
-        &[
-            Step::Define("b", Given::Text("1")),
-            Step::Define("a", Given::Text("2")),
-            Step::Define("c", Given::Text("3")),
-            Step::Undefine("b"),
-            Step::Define("b", Given::Text("4")),
-        ],
-        "a, text 2; 1\nb, text 4; 1\nc, text 3; 1\n",
-    ),
-    (
-        "one call returns all names with their definitions, in byte order",
-        &[
-            Step::LookAtAll,
-            Step::Push("b", Given::Text("old")),
-            Step::Push("", Given::Named("dnl")),
-            Step::Push("ba", Given::Text("")),
-            Step::Push("b", Given::Named("format")),
-            Step::LookAtAll,
-            Step::Pop("ba"),
-            Step::Undefine(""),
-            Step::Pop("b"),
-            Step::LookAtAll,
-        ],
-        ", builtin dnl\n\
-          b, text old, placeholder format\n\
-          ba, text \n\
-          b, text old\n\
-          b, text old; 3\n",
-    ),
-];
+static ORDERS: [Row; 3] = rows! {
+    "an empty state", &[Step::Look("a")] => "a\n";
+    "a name that is defined again has its place in the order again", &[Step::Define("b", Given::Text("1")),
+        Step::Define("a", Given::Text("2")), Step::Define("c", Given::Text("3")), Step::Undefine("b"),
+        Step::Define("b", Given::Text("4"))] => "a, text 2; 1\nb, text 4; 1\nc, text 3; 1\n";
+    "one call returns all names with their definitions, in byte order", &[Step::LookAtAll, Step::Push("b",
+        Given::Text("old")), Step::Push("", Given::Named("dnl")), Step::Push("ba", Given::Text("")), Step::Push("b",
+        Given::Named("format")), Step::LookAtAll, Step::Pop("ba"), Step::Undefine(""), Step::Pop("b"),
+        Step::LookAtAll] =>
+        ", builtin dnl\nb, text old, placeholder format\nba, text \nb, text old\nb, text old; 3\n";
+};
 
 // Definitions that are pushed.
-static PUSHED: [Row; 2] = [
-    (
-        "a text is pushed with its name before it, short or long",
-        &[
-            Step::PushText("xa text of thirty bytes or more", 1),
-            Step::PushText("xnew", 1),
-            Step::PushText("", 0),
-            Step::PushText("a name of twenty-three.text", 23),
-            Step::PushText("a name of twenty-two...", 22),
-            Step::PushText("no text", 7),
-        ],
-        ", text ; 0\n\
-          a name of twenty-three., text text; 4\n\
-          a name of twenty-two.., text .; 1\n\
-          no text, text ; 0\n\
-          x, text a text of thirty bytes or more, text new; 3\n",
-    ),
-    (
-        "the newest definition is on top",
-        &[
-            Step::Push("x", Given::Text("old")),
-            Step::Push("x", Given::Named("format")),
-        ],
-        "x, text old, placeholder format; 6\n",
-    ),
-];
+static PUSHED: [Row; 2] = rows! {
+    "a text is pushed with its name before it, short or long", &[Step::PushText("xa text of thirty bytes or more",
+        1), Step::PushText("xnew", 1), Step::PushText("", 0), Step::PushText("a name of twenty-three.text", 23),
+        Step::PushText("a name of twenty-two...", 22), Step::PushText("no text", 7)] =>
+        ", text ; 0\na name of twenty-three., text text; 4\na name of twenty-two.., text .; 1\nno text, text ; 0\n\
+         x, text a text of thirty bytes or more, text new; 3\n";
+    "the newest definition is on top",
+        &[Step::Push("x", Given::Text("old")), Step::Push("x", Given::Named("format"))] =>
+        "x, text old, placeholder format; 6\n";
+};
 
 // Definitions that are taken away or replaced.
-static STACKS: [Row; 3] = [
-    (
-        "names of one length, with the same first, middle and last byte, are told apart",
-        &[
-            Step::Define("axcye", Given::Text("1")),
-            Step::Look("azcwe"),
-            Step::Define("azcwe", Given::Text("2")),
-            Step::Undefine("axcye"),
-            Step::Look("axcye"),
-        ],
-        "azcwe\naxcye\nazcwe, text 2; 1\n",
-    ),
-    (
-        "the newest definition is taken away, and the name with the last one",
-        &[
-            Step::Push("x", Given::Text("old")),
-            Step::Push("x", Given::Text("new")),
-            Step::Push("y", Given::Text("1")),
-            Step::Pop("x"),
-            Step::Look("x"),
-            Step::Pop("x"),
-            Step::Pop("x"),
-            Step::Pop("missing"),
-            Step::Look("x"),
-        ],
-        "x, text old; 3\nx\ny, text 1; 1\n",
-    ),
-    (
-        "a definition replaces the newest one, an undefinition takes all away",
-        &[
-            Step::Push("x", Given::Text("old")),
-            Step::Push("x", Given::Text("new")),
-            Step::Define("x", Given::Text("newest")),
-            Step::Define("a", Given::Named("dnl")),
-            Step::Look("x"),
-            Step::Undefine("x"),
-            Step::Undefine("y"),
-            Step::Look("x"),
-        ],
-        "x, text old, text newest; 6\nx\na, builtin dnl; 3\n",
-    ),
-];
+static STACKS: [Row; 3] = rows! {
+    "names of one length, with the same first, middle and last byte, are told apart", &[Step::Define("axcye",
+        Given::Text("1")), Step::Look("azcwe"), Step::Define("azcwe", Given::Text("2")), Step::Undefine("axcye"),
+        Step::Look("axcye")] => "azcwe\naxcye\nazcwe, text 2; 1\n";
+    "the newest definition is taken away, and the name with the last one", &[Step::Push("x", Given::Text("old")),
+        Step::Push("x", Given::Text("new")), Step::Push("y", Given::Text("1")), Step::Pop("x"), Step::Look("x"),
+        Step::Pop("x"), Step::Pop("x"), Step::Pop("missing"), Step::Look("x")] =>
+        "x, text old; 3\nx\ny, text 1; 1\n";
+    "a definition replaces the newest one, an undefinition takes all away", &[Step::Push("x", Given::Text("old")),
+        Step::Push("x", Given::Text("new")), Step::Define("x", Given::Text("newest")), Step::Define("a",
+        Given::Named("dnl")), Step::Look("x"), Step::Undefine("x"), Step::Undefine("y"), Step::Look("x")] =>
+        "x, text old, text newest; 6\nx\na, builtin dnl; 3\n";
+};
 
 // Adds a definition.
 fn describe(definition: Result<Def, AllocError>, report: &mut Report) {
