@@ -13,6 +13,14 @@ macro_rules! rows {
     };
 }
 
+/// Expands to a table of rows of steps: of each its name and its steps, and after an arrow what they report.
+#[cfg(test)]
+macro_rules! step_rows {
+    ($($name:literal, [$($step:ident $(($($argument:expr),*))?),*] => $want:expr;)*) => {
+        [$(($name, &[$(Step::$step $(($($argument),*))?),*], $want)),*]
+    };
+}
+
 #[cfg(test)]
 mod builtins;
 #[cfg(test)]

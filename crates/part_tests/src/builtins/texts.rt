@@ -65,14 +65,14 @@ static WARNED_PARTS: [Warns; 6] = rows! {
     "no argument", &[], None => FEW;
 };
 
-static OTHER_PARTS: [Row; 3] = rows! {
-    "an empty place and count", false, &[Step::Call("substr", &["abc", "", ""])] =>
+static OTHER_PARTS: [Row; 3] = step_rows! {
+    "an empty place and count", [Call("substr", &["abc", "", ""])] =>
         "push \nm4:a.m4:1: Warning: empty string treated as 0 in builtin `substr'\n\
          m4:a.m4:1: Warning: empty string treated as 0 in builtin `substr'\n";
-    "an empty place and a count that is no number", false, &[Step::Call("substr", &["abc", "", "x"])] =>
+    "an empty place and a count that is no number", [Call("substr", &["abc", "", "x"])] =>
         "m4:a.m4:1: Warning: empty string treated as 0 in builtin `substr'\n\
          m4:a.m4:1: Warning: non-numeric argument to builtin `substr'\n";
-    "a fourth argument", false, &[Step::Call("substr", &["abc", "", "2", "x"])] =>
+    "a fourth argument", [Call("substr", &["abc", "", "2", "x"])] =>
         "push ab\nm4:a.m4:1: Warning: excess arguments to builtin `substr' ignored\n\
          m4:a.m4:1: Warning: empty string treated as 0 in builtin `substr'\n";
 };
@@ -98,21 +98,18 @@ static DASHES: [Pushes; 5] = rows! {
     "nothing", &["", "a-z", "A-Z"] => "";
 };
 
-static WARNED_DASHES: [Warns; 2] = rows! {
+static WARNED_DASHES: [Warns; 3] = rows! {
     "a fourth argument", &["abc", "b", "x", "y"], Some("axc") => MANY;
+    "one argument", &["abc"], Some("abc") => FEW;
     "no argument", &[], None => FEW;
 };
 
-// A call with bytes that are no text.
-static EVERY_BYTE: [Step; 1] = [Step::With(
-    1,
-    "translit",
-    &[
-        Argument::Bytes(b"\x00\x7f\xff"),
-        Argument::Bytes(b"\x00-\xff"),
-        Argument::Bytes(b"\xff-\x00"),
-    ],
-)];
+// Bytes that are no text, and two ranges of all bytes.
+static EVERY_BYTE: [Argument; 3] = [
+    Argument::Bytes(b"\x00\x7f\xff"),
+    Argument::Bytes(b"\x00-\xff"),
+    Argument::Bytes(b"\xff-\x00"),
+];
 
 #[test]
 fn texts_are_measured_and_searched(rt: HostRuntime) {
@@ -135,11 +132,6 @@ fn bytes_are_replaced(rt: HostRuntime) {
     pushed(&rt, rt.alloc(), "translit", &REPLACED);
     pushed(&rt, rt.alloc(), "translit", &DASHES);
     warned(&rt, rt.alloc(), "translit", &WARNED_DASHES);
-    let want = b"push \xff\x80\x00\n";
-    shows(
-        &rt,
-        "every byte",
-        want,
-        report_of(rt.alloc(), false, &EVERY_BYTE),
-    );
+    let got = report_of(rt.alloc(), &[Step::With(1, "translit", &EVERY_BYTE)]);
+    shows(&rt, "every byte", b"push \xff\x80\x00\n", got);
 }
