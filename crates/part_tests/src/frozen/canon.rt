@@ -1,11 +1,13 @@
 //! Files that are read and written again, as their canonical text.
 
-use super::{BLOCK, BLOCKS, HEAD, LAST, ROOM, after_a_comment, describe, read, write_canonical};
+use super::{
+    BLOCK, BLOCKS, HEAD, LAST, ROOM, after_a_comment, again, describe, read, write_canonical,
+};
 use crate::report::{Report, joined, repeated};
 use crate::shows::{agrees, agrees_by, agrees_cut};
-use m4_frozen::loading::Loaded;
 use m4_state::memory::MemSink;
 use std::alloc::{AllocError, Global};
+use std::process::Abort;
 use std::test::Fail;
 
 // A row's name, a file, the canonical text without its first two lines and its last one, and the text
@@ -44,23 +46,6 @@ fn canonical(alloc: Global, between: &[u8], issued: &[u8]) -> Result<Vec<u8>, Al
     joined(alloc, &[HEAD, between, LAST, b"; written\n", issued])
 }
 
-// Adds the content of a file: its canonical text, and the text that is issued.
-fn write_loaded(loaded: &Loaded, writer: &mut MemSink, report: &mut Report) {
-    write_canonical(&loaded.state, writer, report);
-    report.add(loaded.issued.as_slice());
-}
-
-// Writes a file's bytes again, this many bytes at a time, to a writer with this much room.
-fn again(alloc: Global, bytes: &[u8], block: usize, room: usize) -> Result<Vec<u8>, AllocError> {
-    let mut writer = MemSink::new(alloc, room, block.max(1))?;
-    let mut report = Report::new(alloc);
-    match read(alloc, bytes, block, false) {
-        Ok(loaded) => write_loaded(&loaded, &mut writer, &mut report),
-        Err(fault) => describe(alloc, fault, &mut report),
-    }
-    report.text()
-}
-
 #[test]
 fn files_are_frozen_again(rt: HostRuntime) {
     for &(name, bytes, between, issued) in &ROWS {
@@ -78,33 +63,54 @@ const EACH_LETTER: &[u8] =
 
 const EACH_CANONICAL: &[u8] = b"Q1,1\n[]\nC0,0\n\nT2,3\na\n# b\nF3,3\ndnldnl\nD1,2\nzz\nD0,0\n\n";
 
-// Writes a file again after a comment that ends this many bytes before the first block does.
-fn again_later(alloc: Global, cut: usize) -> Result<Vec<u8>, AllocError> {
-    let file = after_a_comment(alloc, BLOCK.saturating_sub(cut), EACH_LETTER)?;
-    again(alloc, &file, 4096, ROOM)
+// Writes a file again after a comment of this many bytes.
+fn again_after(alloc: Global, before: usize, file: &[u8]) -> Result<Vec<u8>, AllocError> {
+    let file = after_a_comment(alloc, before, file)?;
+    again(alloc, &file, 4096, file.len().saturating_add(ROOM))
 }
 
 #[test]
 fn a_block_ends_at_each_byte(rt: HostRuntime) {
     for cut in 0..=EACH_LETTER.len() {
         let want = canonical(rt.alloc(), EACH_CANONICAL, b"hi");
-        let got = again_later(rt.alloc(), cut);
+        let got = again_after(rt.alloc(), BLOCK.saturating_sub(cut), EACH_LETTER);
         agrees_cut(&rt, "each letter", (4096, cut), want, got);
     }
 }
 
-// The letter of a name, its length, and that of its text: about the lengths from which on a string is kept otherwise.
-static LENGTHS: [(u8, usize, usize); 4] = rows! {
-    b'a', 30 => 31;
-    b'b', 31 => 30;
-    b'c', 64 => 65;
-    b'd', 65 => 1000;
-};
+// The letter of a name, its length, and that of its text.
+type Lengths = (u8, usize, usize);
+
+// Lengths about those from which on a string is kept otherwise.
+static LENGTHS: [Lengths; 4] = [
+    (b'a', 30, 31),
+    (b'b', 31, 30),
+    (b'c', 64, 65),
+    (b'd', 65, 1000),
+];
+
+// Lengths of four digits to six: such texts are parts of their block, read again with the next one, or as they arrive.
+static LONG: [Lengths; 7] = [
+    (b'a', 1, 9_999),
+    (b'b', 1, 10_000),
+    (b'c', 1, 60_000),
+    (b'd', 1, 32_768),
+    (b'e', 1, 65_537),
+    (b'f', 1, 99_999),
+    (b'g', 1, 100_000),
+];
+
+static LARGE: [Lengths; 1] = [(b'a', 1, 1_000_000)];
+
+// How many bytes of the directives of long texts the first block has.
+static CUTS: [usize; 12] = [
+    0, 4, 5, 8, 9, 10, 11, 10_007, 10_008, 12_288, 16_376, 16_380,
+];
 
 // Returns the directives of these names and texts.
-fn texts_of_each_length(alloc: Global) -> Result<Vec<u8>, AllocError> {
+fn directives(alloc: Global, lengths: &[Lengths]) -> Result<Vec<u8>, AllocError> {
     let mut report = Report::new(alloc);
-    for &(letter, name, text) in &LENGTHS {
+    for &(letter, name, text) in lengths {
         report.counted(b"T", name);
         report.counted(b",", text);
         report.add(b"\n");
@@ -115,68 +121,46 @@ fn texts_of_each_length(alloc: Global) -> Result<Vec<u8>, AllocError> {
     report.text()
 }
 
-// Writes these texts again after a comment that ends this many bytes before the first block does.
-fn texts_later(alloc: Global, texts: &[u8], cut: usize) -> Result<Vec<u8>, AllocError> {
+// Compares what is written again if the first block has this many bytes of these directives, with their version.
+fn compare_cut(
+    rt: &impl Abort,
+    alloc: Global,
+    name: &str,
+    texts: &[u8],
+    cut: usize,
+) -> Result<(), AllocError> {
     let file = joined(alloc, &[b"V1\n", texts])?;
-    let file = after_a_comment(alloc, BLOCK.saturating_sub(cut), &file)?;
-    again(alloc, &file, 4096, ROOM)
+    let want = canonical(alloc, texts, b"");
+    let got = again_after(alloc, BLOCK.saturating_sub(cut), &file);
+    agrees_cut(rt, name, (4096, cut), want, got);
+    Ok(())
 }
 
 #[test]
 fn strings_of_each_length_cross_a_block(rt: HostRuntime) -> Result<(), Fail> {
-    let texts = texts_of_each_length(rt.alloc())?;
+    let texts = directives(rt.alloc(), &LENGTHS)?;
     for cut in 0..400 {
-        let want = canonical(rt.alloc(), &texts, b"");
-        let got = texts_later(rt.alloc(), &texts, cut);
-        agrees_cut(&rt, "strings of each length", (4096, cut), want, got);
+        compare_cut(&rt, rt.alloc(), "strings of each length", &texts, cut)?;
     }
     Ok(())
 }
 
-// Lengths of four digits to six: such texts are parts of their block, read again with the next one, or as they arrive.
-static LONG_LENGTHS: [(u8, usize); 7] = rows! {
-    b'a' => 9_999;
-    b'b' => 10_000;
-    b'c' => 60_000;
-    b'd' => 32_768;
-    b'e' => 65_537;
-    b'f' => 99_999;
-    b'g' => 100_000;
-};
-
-// How many bytes of these directives the first block has.
-static CUTS: [usize; 12] = [
-    0, 4, 5, 8, 9, 10, 11, 10_007, 10_008, 12_288, 16_376, 16_380,
-];
-
-// Returns the directives of these texts.
-fn long_texts(alloc: Global) -> Result<Vec<u8>, AllocError> {
-    let mut report = Report::new(alloc);
-    for &(letter, text) in &LONG_LENGTHS {
-        report.counted(b"T1,", text);
-        report.add(b"\n");
-        report.add(&[letter]);
-        report.add(&repeated(alloc, b'x', text)?);
-        report.add(b"\n");
+#[test]
+fn long_texts_cross_blocks(rt: HostRuntime) -> Result<(), Fail> {
+    let texts = directives(rt.alloc(), &LONG)?;
+    for &cut in &CUTS {
+        compare_cut(&rt, rt.alloc(), "long texts", &texts, cut.saturating_add(3))?;
     }
-    report.text()
-}
-
-// Writes these texts again after a comment, so that the first block has this many bytes of them.
-fn long_texts_later(alloc: Global, texts: &[u8], cut: usize) -> Result<Vec<u8>, AllocError> {
-    let file = joined(alloc, &[b"V1\n", texts])?;
-    let file = after_a_comment(alloc, BLOCK.saturating_sub(cut).saturating_sub(3), &file)?;
-    again(alloc, &file, 4096, file.len().saturating_add(ROOM))
+    Ok(())
 }
 
 #[test]
-fn long_texts_cross_blocks(rt: HostRuntime) -> Result<(), Fail> {
-    let texts = long_texts(rt.alloc())?;
-    for &cut in &CUTS {
-        let want = canonical(rt.alloc(), &texts, b"");
-        let got = long_texts_later(rt.alloc(), &texts, cut);
-        agrees_cut(&rt, "long texts", (4096, cut), want, got);
-    }
+fn a_large_text_comes_back(rt: HostRuntime) -> Result<(), Fail> {
+    let texts = directives(rt.alloc(), &LARGE)?;
+    let file = joined(rt.alloc(), &[HEAD, &texts, LAST])?;
+    let want = canonical(rt.alloc(), &texts, b"");
+    let got = again(rt.alloc(), &file, 4096, file.len());
+    agrees(&rt, "a text of 1,000,000 bytes", want, got);
     Ok(())
 }
 
@@ -216,25 +200,4 @@ fn a_writer_fails_after_each_byte(rt: HostRuntime) {
             agrees_cut(&rt, "a writer that fails", (block, room), want, got);
         }
     }
-}
-
-// Returns a definition whose text has 1,000,000 bytes.
-fn long_definition(alloc: Global) -> Result<Vec<u8>, AllocError> {
-    let text = repeated(alloc, b'x', 1_000_000)?;
-    joined(alloc, &[b"T1,1000000\na", &text, b"\n"])
-}
-
-// Writes a file with a definition again, with enough room for it.
-fn long_again(alloc: Global, definition: &[u8]) -> Result<Vec<u8>, AllocError> {
-    let file = joined(alloc, &[HEAD, definition, LAST])?;
-    again(alloc, &file, 4096, file.len())
-}
-
-#[test]
-fn a_large_text_comes_back(rt: HostRuntime) -> Result<(), Fail> {
-    let definition = long_definition(rt.alloc())?;
-    let want = canonical(rt.alloc(), &definition, b"");
-    let got = long_again(rt.alloc(), &definition);
-    agrees(&rt, "a text of 1,000,000 bytes", want, got);
-    Ok(())
 }
