@@ -6,7 +6,8 @@
 /// and after an arrow their results; and then each other field that it has.
 macro_rules! input_rows {
     ($usual:ident:
-     $($name:literal, $file:expr, [$($step:ident $(($argument:expr))?),*] => $want:expr $(, $field:ident: $value:expr)*;)*) => {
+     $($name:literal, $file:expr, [$($step:ident $(($argument:expr))?),*] => $want:expr
+       $(, $field:ident: $value:expr)*;)*) => {
         [$($crate::input::steps::Row {
             name: $name,
             file: $file,

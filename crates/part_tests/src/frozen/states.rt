@@ -15,7 +15,8 @@ static ROWS: [Row; 2] = step_rows! {
     "a text and a diversion that is not the current one", [Define("a", Text("b")), Divert(3, "later"), Divert(0, "")] =>
         "T1,1\nab\nD3,5\nlater\nD0,0\n\n";
     "a name that was undefined and defined again",
-        [Define("b", Text("B")), Define("a", Text("A")), Define("c", Text("C")), Undefine("b"), Define("b", Text("B"))] =>
+        [Define("b", Text("B")), Define("a", Text("A")), Define("c", Text("C")), Undefine("b"),
+         Define("b", Text("B"))] =>
         "T1,1\naA\nT1,1\nbB\nT1,1\ncC\n";
 };
 

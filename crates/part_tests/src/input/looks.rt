@@ -108,11 +108,11 @@ fn first_tokens(rt: HostRuntime) {
 }
 
 // A row's name, a text, whether a list follows if it is complete, and if more bytes may follow.
-static LISTS: [(&str, &[u8], &[u8], &[u8]); 4] = rows! {
-    "an empty text", b"", b"no" => b"unknown";
-    "a parenthesis", b"(a", b"yes" => b"yes";
-    "a blank before a parenthesis", b" (", b"no" => b"no";
-    "a parenthesis that closes", b")", b"no" => b"no";
+static LISTS: [(&str, &[u8], (&[u8], &[u8])); 4] = rows! {
+    "an empty text", b"" => (b"no", b"unknown");
+    "a parenthesis", b"(a" => (b"yes", b"yes");
+    "a blank before a parenthesis", b" (" => (b"no", b"no");
+    "a parenthesis that closes", b")" => (b"no", b"no");
 };
 
 // Reports an answer.
@@ -129,7 +129,7 @@ fn answer_of(alloc: Global, text: &[u8], may_follow: bool) -> Result<Vec<u8>, Al
 
 #[test]
 fn lists(rt: HostRuntime) {
-    for &(name, text, want, open) in &LISTS {
+    for &(name, text, (want, open)) in &LISTS {
         shows(&rt, name, want, answer_of(rt.alloc(), text, false));
         shows(&rt, name, open, answer_of(rt.alloc(), text, true));
     }
