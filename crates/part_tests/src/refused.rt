@@ -438,13 +438,14 @@ fn is_found(
     call: Reading,
 ) -> Result<bool, InputFault> {
     match call {
-        Reading::Next => {
-            let token = input.next(reader, delims)?;
-            Ok(matches!(token, Token::Name(found) if found.as_slice() == NAME.as_bytes()))
-        }
+        Reading::Next => match input.next(reader, delims) {
+            Ok(Token::Name(found)) => Ok(found.as_slice() == NAME.as_bytes()),
+            Ok(_) => Ok(false),
+            Err(fault) => Err(fault),
+        },
         Reading::SkipLine => {
             input.skip_line(reader)?;
-            Ok(matches!(input.sees_paren(reader, delims), Ok(true)))
+            input.sees_paren(reader, delims)
         }
         Reading::SeesParen => input.sees_paren(reader, delims),
     }

@@ -34,10 +34,8 @@ fn messages_at(alloc: Global, file: &[u8], line: u64) -> Result<Vec<u8>, AllocEr
         line,
     };
     let mut report = Report::new(alloc);
-    describe(
-        error_message(alloc, &place, b"end of file in string"),
-        &mut report,
-    );
+    let error = error_message(alloc, &place, b"end of file in string");
+    describe(error, &mut report);
     describe(dropped_message(alloc, &place), &mut report);
     report.text()
 }

@@ -43,12 +43,8 @@ static ROWS: [Row; 16] = rows! {
 
 // Returns the expansion of a text.
 fn given(alloc: Global, text: &str, args: &Args, quotes: Quotes) -> Result<Vec<u8>, AllocError> {
-    match substitute(
-        alloc,
-        text.as_bytes(),
-        args,
-        (quotes.0.as_bytes(), quotes.1.as_bytes()),
-    ) {
+    let quotes = (quotes.0.as_bytes(), quotes.1.as_bytes());
+    match substitute(alloc, text.as_bytes(), args, quotes) {
         Ok(got) => joined(alloc, &[got.as_slice()]),
         Err(_refused) => Err(AllocError),
     }

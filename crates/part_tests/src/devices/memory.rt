@@ -126,15 +126,10 @@ fn put_where(alloc: Global, room: usize) -> Result<Vec<u8>, AllocError> {
 fn bytes_are_put_up_to_the_room(rt: HostRuntime) {
     for room in 0..=BYTES.len() {
         for &at_most in &SIZES {
+            let name = "a writer with room for this";
             let got = put_into(rt.alloc(), room, at_most);
             let want = put_where(rt.alloc(), room);
-            agrees_cut(
-                &rt,
-                "a writer with room for this",
-                (at_most, room),
-                want,
-                got,
-            );
+            agrees_cut(&rt, name, (at_most, room), want, got);
         }
     }
 }
@@ -165,16 +160,8 @@ fn puts_of(alloc: Global) -> Result<Vec<u8>, AllocError> {
 
 #[test]
 fn pieces_and_a_full_writer(rt: HostRuntime) {
-    shows(
-        &rt,
-        "pieces in their order",
-        b"onetwothr; fault",
-        pieces_put(rt.alloc()),
-    );
-    shows(
-        &rt,
-        "nothing is taken once it is full",
-        b"2 fault ab",
-        puts_of(rt.alloc()),
-    );
+    let pieces = pieces_put(rt.alloc());
+    shows(&rt, "pieces in their order", b"onetwothr; fault", pieces);
+    let puts = puts_of(rt.alloc());
+    shows(&rt, "nothing is taken once it is full", b"2 fault ab", puts);
 }

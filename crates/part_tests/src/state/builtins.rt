@@ -54,8 +54,7 @@ fn report_of(alloc: Global, name: &[u8]) -> Result<Vec<u8>, AllocError> {
 
 // Adds the columns of a builtin.
 fn describe(builtin: Builtin, report: &mut Report) {
-    report.add(builtin.name());
-    report.add(b": ");
+    report.pair(builtin.name(), b": ");
     if builtin.needs_args() {
         report.add(b"parameters, ");
     }
@@ -95,10 +94,6 @@ fn copy_of(alloc: Global, bytes: &[u8]) -> Result<Vec<u8>, AllocError> {
 
 #[test]
 fn a_byte_string_is_copied(rt: HostRuntime) {
-    shows(
-        &rt,
-        "a byte 0 at its end",
-        b"a\x00",
-        copy_of(rt.alloc(), b"a\x00"),
-    );
+    let got = copy_of(rt.alloc(), b"a\x00");
+    shows(&rt, "a byte 0 at its end", b"a\x00", got);
 }

@@ -35,10 +35,8 @@ fn set(alloc: Global, state: &mut State, begin: &str, end: &str) -> Result<(), S
 
 // Adds a pair with its name.
 fn describe(name: &[u8], pair: (&[u8], &[u8]), report: &mut Report) {
-    report.add(name);
-    report.add(b" ");
-    report.add(pair.0);
-    report.add(b" ");
+    report.pair(name, b" ");
+    report.pair(pair.0, b" ");
     report.add(pair.1);
 }
 
