@@ -96,10 +96,6 @@ fn arguments(alloc: Global) -> Result<Vec<u8>, AllocError> {
 
 #[test]
 fn arguments_in_their_order(rt: HostRuntime) {
-    shows(
-        &rt,
-        "two texts",
-        b"one; two; and one; two; ",
-        arguments(rt.alloc()),
-    );
+    let got = arguments(rt.alloc());
+    shows(&rt, "two texts", b"one; two; and one; two; ", got);
 }

@@ -15,16 +15,16 @@ const DEPTH: usize = 1_000_000;
 // A row's name, an expression, and its value.
 type Row = (&'static str, &'static str, &'static str);
 
-static VALUES: [Row; 8] = [
-    ("a product before a sum", "2+3*4", "14"),
-    ("to the left", " ( 10 - 3 ) - 2 - 1 ", "4"),
-    ("decided by the left", "1||1/0", "1"),
-    ("a quotient that wraps", "-2147483648/-1", "-2147483648"),
-    ("a radix that is stated", "0r36:z", "35"),
-    ("a zero divisor", "1/0", "divide by zero"),
-    ("no operator of the language", "2**3", "bad expression"),
-    ("white space alone", " ", "bad expression"),
-];
+static VALUES: [Row; 8] = rows! {
+    "a product before a sum", "2+3*4" => "14";
+    "to the left", " ( 10 - 3 ) - 2 - 1 " => "4";
+    "decided by the left", "1||1/0" => "1";
+    "a quotient that wraps", "-2147483648/-1" => "-2147483648";
+    "a radix that is stated", "0r36:z" => "35";
+    "a zero divisor", "1/0" => "divide by zero";
+    "no operator of the language", "2**3" => "bad expression";
+    "white space alone", " " => "bad expression";
+};
 
 // A row's name, a byte that comes first and a text after it, a byte that comes last, and the value.
 type Nested = (
@@ -35,48 +35,30 @@ type Nested = (
     &'static str,
 );
 
-static NESTED: [Nested; 3] = [
-    (
-        "parentheses that never close",
-        (b'(', DEPTH),
-        "1",
-        (b')', 0),
-        "bad expression",
-    ),
-    (
-        "parentheses that close",
-        (b'(', DEPTH),
-        "7",
-        (b')', DEPTH),
-        "7",
-    ),
-    ("signs", (b'-', DEPTH), "7", (b' ', 0), "7"),
-];
+static NESTED: [Nested; 3] = rows! {
+    "parentheses that never close", (b'(', DEPTH), "1", (b')', 0) => "bad expression";
+    "parentheses that close", (b'(', DEPTH), "7", (b')', DEPTH) => "7";
+    "signs", (b'-', DEPTH), "7", (b' ', 0) => "7";
+};
 
 // A row's name, a value, a radix, a width, and the radix with the digits.
 type Written = (&'static str, i32, i32, usize, &'static str);
 
-static WRITTEN: [Written; 7] = [
-    ("zero", 0, 10, 0, "10: 0"),
-    ("a sign is not counted", -666, 6, 10, "6: -0000003030"),
-    (
-        "the least in radix 2",
-        -2147483648,
-        2,
-        1,
-        "2: -10000000000000000000000000000000",
-    ),
-    ("letters", 1295, 36, 0, "36: zz"),
-    ("radix 1", 5, 1, 0, "no radix"),
-    ("radix 37", 5, 37, 0, "no radix"),
-    ("a negative radix", 5, -2, 0, "no radix"),
-];
+static WRITTEN: [Written; 7] = rows! {
+    "zero", 0, 10, 0 => "10: 0";
+    "a sign is not counted", -666, 6, 10 => "6: -0000003030";
+    "the least in radix 2", -2147483648, 2, 1 => "2: -10000000000000000000000000000000";
+    "letters", 1295, 36, 0 => "36: zz";
+    "radix 1", 5, 1, 0 => "no radix";
+    "radix 37", 5, 37, 0 => "no radix";
+    "a negative radix", 5, -2, 0 => "no radix";
+};
 
-static SPACES: [Row; 3] = [
-    ("nothing", "", "0, blank"),
-    ("each kind", " \t\n\x0b\x0c\r", "6, blank"),
-    ("a letter", "\t x ", "2, not blank"),
-];
+static SPACES: [Row; 3] = rows! {
+    "nothing", "" => "0, blank";
+    "each kind", " \t\n\x0b\x0c\r" => "6, blank";
+    "a letter", "\t x " => "2, not blank";
+};
 
 // Returns the value of a text, or why it has none.
 fn value_seen(alloc: Global, text: &[u8]) -> Result<Vec<u8>, AllocError> {

@@ -80,3 +80,18 @@ fn write_canonical(state: &State, writer: &mut MemSink, report: &mut Report) {
     let answer = write_frozen(state, writer);
     describe_written(answer, writer, report);
 }
+
+// Writes a file's bytes again, this many bytes at a time, to a writer with this much room: its canonical text, and then
+// the text that is issued.
+fn again(alloc: Global, bytes: &[u8], block: usize, room: usize) -> Result<Vec<u8>, AllocError> {
+    let mut writer = MemSink::new(alloc, room, block.max(1))?;
+    let mut report = Report::new(alloc);
+    match read(alloc, bytes, block, false) {
+        Ok(loaded) => {
+            write_canonical(&loaded.state, &mut writer, &mut report);
+            report.add(loaded.issued.as_slice());
+        }
+        Err(fault) => describe(alloc, fault, &mut report),
+    }
+    report.text()
+}

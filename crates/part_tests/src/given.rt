@@ -50,15 +50,6 @@ pub fn empty_state(alloc: Global) -> Result<State, AllocError> {
     }
 }
 
-/// Returns a state to start with: a fresh one with its builtins, or one without names.
-pub fn start(alloc: Global, fresh: bool) -> Result<State, StateFault> {
-    if fresh {
-        State::fresh(alloc, false)
-    } else {
-        State::empty(alloc)
-    }
-}
-
 /// Returns a state without names, with these quotes and comment delimiters.
 pub fn delimited(
     alloc: Global,

@@ -2,7 +2,22 @@
 //! Manual: "Lexical and syntactic conventions", "Changing the quote characters", "Deleting whitespace
 //! in input", "How m4 copies input to output".
 
-ghost use Rattle.std.specs.Prelude.{◌≡◌, None};
+/// Expands to rows of steps, with the fields of a usual row that comes first: of each its name, its file and its steps,
+/// and after an arrow their results; and then each other field that it has.
+macro_rules! input_rows {
+    ($usual:ident:
+     $($name:literal, $file:expr, [$($step:ident $(($argument:expr))?),*] => $want:expr
+       $(, $field:ident: $value:expr)*;)*) => {
+        [$($crate::input::steps::Row {
+            name: $name,
+            file: $file,
+            steps: &[$($crate::input::steps::Step::$step $(($argument))?),*],
+            want: $want,
+            $($field: $value,)*
+            ..$crate::input::steps::$usual
+        }),*]
+    };
+}
 
 mod blocks;
 mod calls;
@@ -16,11 +31,7 @@ use crate::given::describe_definition;
 use crate::report::{Report, printed};
 use crate::shows::shows;
 use m4_input::fault::InputFault;
-use m4_input::input::Input;
-use m4_input::pushed::Pushed;
 use m4_input::token::Token;
-use m4_state::bytes::Bytes;
-use std::alloc::{AllocError, Global};
 
 // How many bytes a reader returns at a time.
 const BLOCKS: [usize; 4] = [1, 2, 3, 4096];
@@ -41,39 +52,20 @@ fn describe(token: &Token, report: &mut Report) {
 // Adds a fault, with the line that it names.
 fn describe_fault(fault: InputFault, report: &mut Report) {
     match fault {
-        InputFault::EndInString { line } => report.counted(
-            b"end in string of line ",
-            line as usize,
-        ),
-        InputFault::EndInComment { line } => report.counted(
-            b"end in comment of line ",
-            line as usize,
-        ),
+        InputFault::EndInString { line } => {
+            report.counted(b"end in string of line ", line as usize);
+        }
+        InputFault::EndInComment { line } => {
+            report.counted(b"end in comment of line ", line as usize);
+        }
         InputFault::Read => report.add(b"read fault"),
         InputFault::OutOfMemory => report.refuse(),
     }
     report.add(b"\n");
 }
 
-// Pushes text back to the input.
-fn push(alloc: Global, input: &mut Input, bytes: &[u8]) -> Result<(), InputFault>
-    requires { input.old.pending.definition ≡ None }
-    ensures { input.new.pending.definition ≡ None }
-{
-    match Bytes::from_slice(alloc, bytes) {
-        Ok(text) => input.push_front(Pushed::Text(text)),
-        Err(AllocError) => Err(InputFault::OutOfMemory),
-    }
-}
-
 #[test]
 fn faults_are_printed(rt: HostRuntime) {
-    let fault = InputFault::EndInString { line: 3 };
-    let want = b"I1 EndInString";
-    shows(
-        &rt,
-        "a string without an end",
-        want,
-        printed(rt.alloc(), &fault),
-    );
+    let got = printed(rt.alloc(), &InputFault::EndInString { line: 3 });
+    shows(&rt, "a string without an end", b"I1 EndInString", got);
 }

@@ -5,6 +5,22 @@
 //! from the manual of GNU M4 and from the frozen file format.
 #![tactic(auto)]
 
+/// Expands to a table of rows: each has its columns, and after an arrow the last one, which is expected.
+#[cfg(test)]
+macro_rules! rows {
+    ($($($column:expr),+ => $want:expr;)*) => {
+        [$(($($column,)+ $want)),*]
+    };
+}
+
+/// Expands to a table of rows of steps: of each its name and its steps, and after an arrow what they report.
+#[cfg(test)]
+macro_rules! step_rows {
+    ($($name:literal, [$($step:ident $(($($argument:expr),*))?),*] => $want:expr;)*) => {
+        [$(($name, &[$(Step::$step $(($($argument),*))?),*], $want)),*]
+    };
+}
+
 #[cfg(test)]
 mod builtins;
 #[cfg(test)]

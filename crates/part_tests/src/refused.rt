@@ -34,6 +34,10 @@ use std::process::Abort;
 // A name and texts that are too long to be held in place.
 const NAME: &str = "a_name_of_more_than_thirty_letters";
 
+const LONG_NAME: &[u8] = b"a_name_of_more_than_thirty_letters ";
+
+const JOINED: &[u8] = b"a_name_of_more_than_thirty_lettersfile";
+
 const FIRST: &str = "the text of its first definition, of more than thirty bytes";
 
 const SECOND: &str = "the text of its second definition, of more than thirty bytes";
@@ -151,51 +155,17 @@ fn long_pair(turned: bool) -> (&'static [u8], &'static [u8]) {
     }
 }
 
-// Returns whether two definitions are the same.
-fn is_equal(one: &Def, other: &Def) -> bool {
-    match (one, other) {
-        (Def::Text(one), Def::Text(other)) => one.as_slice() == other.as_slice(),
-        (Def::Builtin(one), Def::Builtin(other)) => one.name() == other.name(),
-        (Def::Placeholder(one), Def::Placeholder(other)) => one.as_slice() == other.as_slice(),
-        _ => false,
-    }
+// Returns whether two states have one record: one canonical text, which has all of it. None if it could not be written.
+fn are_same(alloc: Global, one: &State, other: &State) -> Option<bool> {
+    let (mut text, mut wanted) = (writer(alloc)?, writer(alloc)?);
+    write_frozen(one, &mut text).ok()?;
+    write_frozen(other, &mut wanted).ok()?;
+    Some(text.written() == wanted.written())
 }
 
-// Returns whether these are the same definitions, in their order.
-fn are_equal(some: &[Def], others: &[Def]) -> bool {
-    let mut equal = some.len() == others.len();
-    let mut rest = others;
-    for one in some {
-        match rest.split_first() {
-            Some((first, after)) => {
-                equal = equal && is_equal(one, first);
-                rest = after;
-            }
-            None => equal = false,
-        }
-    }
-    equal
-}
-
-// Returns whether two states have one record: names and definitions, delimiters, diversions and the current number.
-// None if their names could not be listed.
-fn are_same(one: &State, other: &State) -> Option<bool> {
-    let named = one.definitions().ok()?;
-    let mut same = other.definitions().ok()?.len() == named.len();
-    for entry in &named {
-        same = same && are_equal(entry.stack(), other.stack(entry.name()));
-    }
-    let mut number = Some(0);
-    for _ in 0..5 {
-        if let Some(n) = number {
-            number = one.next_diversion(n);
-            same = same
-                && number == other.next_diversion(n)
-                && one.diversion(n) == other.diversion(n);
-        }
-    }
-    let delimiters = one.quotes() == other.quotes() && one.comments() == other.comments();
-    Some(same && number.is_none() && delimiters && one.current() == other.current())
+// Returns a writer with enough room for each text.
+fn writer(alloc: Global) -> Option<MemSink> {
+    MemSink::new(alloc, 4096, 7).ok()
 }
 
 // A call that changes a state.
@@ -219,15 +189,13 @@ fn make(alloc: Global, state: &mut State, change: Change) -> Option<bool> {
     match change {
         Change::Define => {
             let name = Bytes::from_slice(alloc, OTHER.as_bytes()).ok()?;
-            Some(
-                state
-                    .define(name, text_of(alloc, FIRST.as_bytes())?)
-                    .is_err(),
-            )
+            let text = text_of(alloc, FIRST.as_bytes())?;
+            Some(state.define(name, text).is_err())
         }
         Change::Push => {
             let name = Bytes::from_slice(alloc, NAME.as_bytes()).ok()?;
-            Some(state.push(name, text_of(alloc, FIRST.as_bytes())?).is_err())
+            let text = text_of(alloc, FIRST.as_bytes())?;
+            Some(state.push(name, text).is_err())
         }
         Change::Undivert => Some(state.undivert(1).is_err()),
         Change::Issue => match state.undivert(1) {
@@ -261,17 +229,9 @@ fn is_made(state: &State, change: Change) -> bool {
 fn are_texts(definitions: &[Def], texts: &[&[u8]]) -> bool {
     let mut equal = definitions.len() == texts.len();
     for (one, text) in definitions.iter().zip(texts.iter()) {
-        equal = equal && is_text(one, text);
+        equal = equal && matches!(one, Def::Text(found) if found.as_slice() == *text);
     }
     equal
-}
-
-// Returns whether a definition is this text.
-fn is_text(definition: &Def, wanted: &[u8]) -> bool {
-    match definition {
-        Def::Text(text) => text.as_slice() == wanted,
-        _ => false,
-    }
 }
 
 // Makes a call on a state where this number is current. A refusal leaves the whole record.
@@ -279,7 +239,7 @@ fn changed(alloc: Global, change: Change, current: i32) -> Outcome {
     let mut state = prepared(alloc, current)?;
     let twin = prepared(alloc, current)?;
     let refused = make(alloc, &mut state, change)?;
-    let same = are_same(&state, &twin)?;
+    let same = are_same(alloc, &state, &twin)?;
     Some(judged(refused, same, is_made(&state, change)))
 }
 
@@ -287,12 +247,12 @@ fn changed(alloc: Global, change: Change, current: i32) -> Outcome {
 fn named(alloc: Global) -> Outcome {
     let (state, twin) = (prepared(alloc, 0)?, prepared(alloc, 0)?);
     let names = state.names();
-    let stays = are_same(&state, &twin)?;
+    let stays = are_same(alloc, &state, &twin)?;
     match names {
         Ok(found) => match found.as_slice() {
             [first, second] => {
-                let found = first.as_slice() == NAME.as_bytes()
-                    && second.as_slice() == b"cut".as_slice();
+                let names = (first.as_slice(), second.as_slice());
+                let found = names == (NAME.as_bytes(), b"cut".as_slice());
                 Some(judged(false, false, stays && found))
             }
             _ => Some(Left::Wrong),
@@ -312,35 +272,29 @@ fn fresh(alloc: Global) -> Outcome {
     }
 }
 
-// Copies bytes that are too long to be held in place.
-fn copied(alloc: Global) -> Outcome {
-    match Bytes::from_slice(alloc, FIRST.as_bytes()) {
-        Ok(bytes) => Some(judged(false, false, bytes.as_slice() == FIRST.as_bytes())),
-        Err(AllocError) => Some(Left::Before),
-    }
+// Judges bytes that a call returned. What it was given has to stay.
+fn made(answer: Result<Bytes, AllocError>, stays: bool, wanted: &[u8]) -> Outcome {
+    Some(match answer {
+        Ok(bytes) => judged(false, false, stays && bytes.as_slice() == wanted),
+        Err(AllocError) => judged(true, stays, false),
+    })
 }
 
 // Makes bytes of a buffer.
 fn kept(alloc: Global) -> Outcome {
     let buffer = Vec::from_slice(alloc, FIRST.as_bytes()).ok()?;
-    match Bytes::from_vec(buffer) {
-        Ok(bytes) => Some(judged(false, false, bytes.as_slice() == FIRST.as_bytes())),
-        Err(AllocError) => Some(Left::Before),
-    }
+    made(Bytes::from_vec(buffer), true, FIRST.as_bytes())
 }
 
-// Shares bytes, or a part of them. What they are made from stays.
+// Shares bytes, or a part of them.
 fn shared(alloc: Global, part: bool) -> Outcome {
     let bytes = Bytes::from_slice(alloc, FIRST.as_bytes()).ok()?;
-    let answer = if part { part_of(&bytes) } else { bytes.share() };
-    let stays = bytes.as_slice() == FIRST.as_bytes();
-    match answer {
-        Ok(other) => {
-            let whole: &[u8] = if part { REST } else { FIRST.as_bytes() };
-            Some(judged(false, false, stays && other.as_slice() == whole))
-        }
-        Err(AllocError) => Some(judged(true, stays, false)),
-    }
+    let (answer, wanted) = if part {
+        (part_of(&bytes), REST)
+    } else {
+        (bytes.share(), FIRST.as_bytes())
+    };
+    made(answer, bytes.as_slice() == FIRST.as_bytes(), wanted)
 }
 
 // Returns all but the first four bytes, or nothing if there are not so many.
@@ -355,10 +309,11 @@ fn part_of(bytes: &Bytes) -> Result<Bytes, AllocError> {
 #[test]
 fn bytes_stay(rt: HostRuntime) {
     let alloc = rt.alloc();
+    let copied = Bytes::from_slice(alloc, FIRST.as_bytes());
     count(
         &rt,
         &[
-            ("from_slice", copied(alloc)),
+            ("from_slice", made(copied, true, FIRST.as_bytes())),
             ("from_vec", kept(alloc)),
             ("share", shared(alloc, false)),
             ("part", shared(alloc, true)),
@@ -414,7 +369,7 @@ fn written(answer: Result<(), WriteFault>, writer: &MemSink, text: &[u8]) -> Lef
 fn put(alloc: Global, lists: bool) -> Outcome {
     let mut reader = MemSource::new(FROZEN, 4096, false);
     let loaded = read_frozen(alloc, &mut reader).ok()?;
-    let mut writer = MemSink::new(alloc, 256, 7).ok()?;
+    let mut writer = writer(alloc)?;
     if lists {
         let answer = list(&loaded, &mut writer);
         return Some(written(answer, &writer, LISTED));
@@ -437,20 +392,6 @@ fn frozen_texts_do_not_begin(rt: HostRuntime) {
     );
 }
 
-// Returns whether the next token is this name; none if that is refused.
-fn next_is(
-    input: &mut Input,
-    reader: &mut MemSource<'_>,
-    delims: &Delims<'_>,
-    name: &[u8],
-) -> Option<bool> {
-    match input.next(reader, delims) {
-        Ok(Token::Name(found)) => Some(found.as_slice() == name),
-        Ok(_) => Some(false),
-        Err(_) => None,
-    }
-}
-
 // Pushes a text in front of a file. If that is refused, the file's first token is the next one.
 fn put_in_front(alloc: Global) -> Outcome {
     let state = State::empty(alloc).ok()?;
@@ -458,22 +399,17 @@ fn put_in_front(alloc: Global) -> Outcome {
     let mut reader = MemSource::new(b"file ", 4096, false);
     let text = Bytes::from_slice(alloc, NAME.as_bytes()).ok()?;
     let refused = input.push_front(Pushed::Text(text)).is_err();
-    let wanted: &[u8] = if refused {
-        b"file"
-    } else {
-        b"a_name_of_more_than_thirty_lettersfile"
+    let wanted: &[u8] = if refused { b"file" } else { JOINED };
+    let found = match input.next(&mut reader, &Delims::of(&state)).ok()? {
+        Token::Name(found) => found.as_slice() == wanted,
+        _ => false,
     };
-    let found = next_is(&mut input, &mut reader, &Delims::of(&state), wanted)?;
     Some(judged(refused, refused && found, !refused && found))
 }
 
 // Returns whether a call failed by want of memory.
 fn is_refused<T: Drop>(answer: Result<T, InputFault>) -> bool {
-    match answer {
-        Err(InputFault::OutOfMemory) => true,
-        Err(_) => false,
-        Ok(_) => false,
-    }
+    matches!(answer, Err(InputFault::OutOfMemory))
 }
 
 // Returns whether each call that can fail does so by want of memory.
@@ -486,55 +422,48 @@ fn has_stopped(input: &mut Input, reader: &mut MemSource<'_>, delims: &Delims<'_
     next && listed && skipped && pushed
 }
 
-// Takes a long name. If that is refused, each later call is.
-fn taken(alloc: Global) -> Outcome {
-    let state = State::empty(alloc).ok()?;
-    let delims = Delims::of(&state);
-    let mut input = Input::file(alloc, Bytes::from_slice(alloc, b"a.m4").ok()?);
-    let mut reader = MemSource::new(b"a_name_of_more_than_thirty_letters ", 4096, false);
-    match input.next(&mut reader, &delims) {
-        Ok(Token::Name(found)) => Some(judged(false, false, found.as_slice() == NAME.as_bytes())),
-        Err(InputFault::OutOfMemory) => {
-            let lasts = has_stopped(&mut input, &mut reader, &delims);
-            Some(judged(true, lasts, false))
+// A call that reads a file.
+#[derive(Clone, Copy)]
+enum Reading {
+    Next,
+    SkipLine,
+    SeesParen,
+}
+
+// Makes a call that reads a block. Returns whether it finds a long name, skips the line before a list, or finds a list.
+fn is_found(
+    input: &mut Input,
+    reader: &mut MemSource<'_>,
+    delims: &Delims<'_>,
+    call: Reading,
+) -> Result<bool, InputFault> {
+    match call {
+        Reading::Next => match input.next(reader, delims) {
+            Ok(Token::Name(found)) => Ok(found.as_slice() == NAME.as_bytes()),
+            Ok(_) => Ok(false),
+            Err(fault) => Err(fault),
+        },
+        Reading::SkipLine => {
+            input.skip_line(reader)?;
+            input.sees_paren(reader, delims)
         }
-        _ => Some(Left::Wrong),
+        Reading::SeesParen => input.sees_paren(reader, delims),
     }
 }
 
-// Skips a line, for which a block is read. If that is refused, each later call is.
-fn skipped(alloc: Global) -> Outcome {
+// Makes a call on a file. If it is refused, each later call is.
+fn reads(alloc: Global, call: Reading, file: &[u8]) -> Outcome {
     let state = State::empty(alloc).ok()?;
     let delims = Delims::of(&state);
     let mut input = Input::file(alloc, Bytes::from_slice(alloc, b"a.m4").ok()?);
-    let mut reader = MemSource::new(b"line\n(", 4096, false);
-    match input.skip_line(&mut reader) {
-        Ok(()) => {
-            let listed = input.sees_paren(&mut reader, &delims);
-            Some(judged(false, false, matches!(listed, Ok(true))))
-        }
+    let mut reader = MemSource::new(file, 4096, false);
+    Some(match is_found(&mut input, &mut reader, &delims, call) {
+        Ok(found) => judged(false, false, found),
         Err(InputFault::OutOfMemory) => {
-            let lasts = has_stopped(&mut input, &mut reader, &delims);
-            Some(judged(true, lasts, false))
+            judged(true, has_stopped(&mut input, &mut reader, &delims), false)
         }
-        Err(_) => Some(Left::Wrong),
-    }
-}
-
-// Looks for a list, for which a block is read. If that is refused, each later call is.
-fn seen(alloc: Global) -> Outcome {
-    let state = State::empty(alloc).ok()?;
-    let delims = Delims::of(&state);
-    let mut input = Input::file(alloc, Bytes::from_slice(alloc, b"a.m4").ok()?);
-    let mut reader = MemSource::new(b"(", 4096, false);
-    match input.sees_paren(&mut reader, &delims) {
-        Ok(listed) => Some(judged(false, false, listed)),
-        Err(InputFault::OutOfMemory) => {
-            let lasts = has_stopped(&mut input, &mut reader, &delims);
-            Some(judged(true, lasts, false))
-        }
-        Err(_) => Some(Left::Wrong),
-    }
+        Err(_) => Left::Wrong,
+    })
 }
 
 #[test]
@@ -544,9 +473,9 @@ fn inputs_stay_or_stop(rt: HostRuntime) {
         &rt,
         &[
             ("push_front", put_in_front(alloc)),
-            ("next", taken(alloc)),
-            ("skip_line", skipped(alloc)),
-            ("sees_paren", seen(alloc)),
+            ("next", reads(alloc, Reading::Next, LONG_NAME)),
+            ("skip_line", reads(alloc, Reading::SkipLine, b"line\n(")),
+            ("sees_paren", reads(alloc, Reading::SeesParen, b"(")),
         ],
     );
 }
@@ -571,129 +500,46 @@ enum Leaves {
 // A builtin, its arguments, and what its call leaves, among others.
 type Called = (&'static str, &'static [&'static str], Leaves);
 
-static DEFINING: [Called; 10] = [
-    ("define", &[NAME, SECOND], Leaves::Top(SECOND)),
-    ("pushdef", &[NAME, SECOND], Leaves::Top(SECOND)),
-    (
-        "undefine",
-        &[],
-        Leaves::Warns("too few arguments to builtin `undefine'"),
-    ),
-    (
-        "popdef",
-        &[],
-        Leaves::Warns("too few arguments to builtin `popdef'"),
-    ),
-    (
-        "defn",
-        &[NAME],
-        Leaves::Pushes("`the text of its first definition, of more than thirty bytes'"),
-    ),
-    ("indir", &[NAME], Leaves::Pushes(FIRST)),
-    (
-        "builtin",
-        &["shift", "a", FIRST],
-        Leaves::Pushes("`the text of its first definition, of more than thirty bytes'"),
-    ),
-    ("ifdef", &[NAME, SECOND], Leaves::Pushes(SECOND)),
-    ("ifelse", &["a", "a", SECOND], Leaves::Pushes(SECOND)),
-    (
-        "shift",
-        &["a", SECOND],
-        Leaves::Pushes("`the text of its second definition, of more than thirty bytes'"),
-    ),
-];
+static DEFINING: [Called; 10] = rows! {
+    "define", &[NAME, SECOND] => Leaves::Top(SECOND);
+    "pushdef", &[NAME, SECOND] => Leaves::Top(SECOND);
+    "undefine", &[] => Leaves::Warns("too few arguments to builtin `undefine'");
+    "popdef", &[] => Leaves::Warns("too few arguments to builtin `popdef'");
+    "defn", &[NAME] => Leaves::Pushes("`the text of its first definition, of more than thirty bytes'");
+    "indir", &[NAME] => Leaves::Pushes(FIRST);
+    "builtin", &["shift", "a", FIRST] =>
+        Leaves::Pushes("`the text of its first definition, of more than thirty bytes'");
+    "ifdef", &[NAME, SECOND] => Leaves::Pushes(SECOND);
+    "ifelse", &["a", "a", SECOND] => Leaves::Pushes(SECOND);
+    "shift", &["a", SECOND] => Leaves::Pushes("`the text of its second definition, of more than thirty bytes'");
+};
 
-static DIVERTING: [Called; 10] = [
-    (
-        "dumpdef",
-        &[NAME],
-        Leaves::Prints(
-            "a_name_of_more_than_thirty_letters:\t`the text of its first definition, of more than thirty bytes'\n",
-        ),
-    ),
-    (
-        "dnl",
-        &[""],
-        Leaves::Warns("excess arguments to builtin `dnl' ignored"),
-    ),
-    (
-        "divert",
-        &["x"],
-        Leaves::Warns("non-numeric argument to builtin `divert'"),
-    ),
-    ("undivert", &["1"], Leaves::Outputs(FIRST)),
-    (
-        "divnum",
-        &[""],
-        Leaves::Warns("excess arguments to builtin `divnum' ignored"),
-    ),
-    ("changequote", &[FIRST, SECOND], Leaves::Quotes),
-    ("changecom", &[FIRST, SECOND], Leaves::Comments),
-    (
-        "len",
-        &[FIRST, ""],
-        Leaves::Warns("excess arguments to builtin `len' ignored"),
-    ),
-    (
-        "index",
-        &[FIRST],
-        Leaves::Warns("too few arguments to builtin `index'"),
-    ),
-    (
-        "substr",
-        &[FIRST, "4"],
-        Leaves::Pushes("text of its first definition, of more than thirty bytes"),
-    ),
-];
+static DIVERTING: [Called; 10] = rows! {
+    "dumpdef", &[NAME] =>
+        Leaves::Prints("a_name_of_more_than_thirty_letters:\t\
+                        `the text of its first definition, of more than thirty bytes'\n");
+    "dnl", &[""] => Leaves::Warns("excess arguments to builtin `dnl' ignored");
+    "divert", &["x"] => Leaves::Warns("non-numeric argument to builtin `divert'");
+    "undivert", &["1"] => Leaves::Outputs(FIRST);
+    "divnum", &[""] => Leaves::Warns("excess arguments to builtin `divnum' ignored");
+    "changequote", &[FIRST, SECOND] => Leaves::Quotes;
+    "changecom", &[FIRST, SECOND] => Leaves::Comments;
+    "len", &[FIRST, ""] => Leaves::Warns("excess arguments to builtin `len' ignored");
+    "index", &[FIRST] => Leaves::Warns("too few arguments to builtin `index'");
+    "substr", &[FIRST, "4"] => Leaves::Pushes("text of its first definition, of more than thirty bytes");
+};
 
-static PRINTING: [Called; 9] = [
-    (
-        "translit",
-        &[FIRST, "t", "T"],
-        Leaves::Pushes("The TexT of iTs firsT definiTion, of more Than ThirTy byTes"),
-    ),
-    (
-        "incr",
-        &["x"],
-        Leaves::Warns("non-numeric argument to builtin `incr'"),
-    ),
-    (
-        "decr",
-        &["x"],
-        Leaves::Warns("non-numeric argument to builtin `decr'"),
-    ),
-    (
-        "eval",
-        &["1", "2", "40"],
-        Leaves::Pushes("0000000000000000000000000000000000000001"),
-    ),
-    (
-        "errprint",
-        &[FIRST, "x"],
-        Leaves::Prints("the text of its first definition, of more than thirty bytes x"),
-    ),
-    (
-        "m4wrap",
-        &[FIRST, "x"],
-        Leaves::Saves("the text of its first definition, of more than thirty bytes x"),
-    ),
-    (
-        "m4exit",
-        &["300"],
-        Leaves::Warns("exit status out of range"),
-    ),
-    (
-        "__file__",
-        &[],
-        Leaves::Pushes("`a_file_of_more_than_thirty_letters.m4'"),
-    ),
-    (
-        "__line__",
-        &[""],
-        Leaves::Warns("excess arguments to builtin `__line__' ignored"),
-    ),
-];
+static PRINTING: [Called; 9] = rows! {
+    "translit", &[FIRST, "t", "T"] => Leaves::Pushes("The TexT of iTs firsT definiTion, of more Than ThirTy byTes");
+    "incr", &["x"] => Leaves::Warns("non-numeric argument to builtin `incr'");
+    "decr", &["x"] => Leaves::Warns("non-numeric argument to builtin `decr'");
+    "eval", &["1", "2", "40"] => Leaves::Pushes("0000000000000000000000000000000000000001");
+    "errprint", &[FIRST, "x"] => Leaves::Prints("the text of its first definition, of more than thirty bytes x");
+    "m4wrap", &[FIRST, "x"] => Leaves::Saves("the text of its first definition, of more than thirty bytes x");
+    "m4exit", &["300"] => Leaves::Warns("exit status out of range");
+    "__file__", &[] => Leaves::Pushes("`a_file_of_more_than_thirty_letters.m4'");
+    "__line__", &[""] => Leaves::Warns("excess arguments to builtin `__line__' ignored");
+};
 
 // Returns a state with a name and text in a diversion.
 fn with_a_name(alloc: Global) -> Option<State> {

@@ -6,4 +6,5 @@ mod delimiters;
 mod diversions;
 mod lanes;
 mod names;
+pub mod steps;
 mod words;

@@ -7,12 +7,12 @@ use m4_builtins::act::needs_list;
 use std::alloc::{AllocError, Global};
 
 // A row's name, a definition, and whether it needs a list.
-static ROWS: [(&str, Given, &str); 4] = [
-    ("a text", Given::Text("<$1>"), "no"),
-    ("a builtin that needs a list", Given::Named("define"), "yes"),
-    ("a builtin that needs none", Given::Named("dnl"), "no"),
-    ("a placeholder", Given::Named("format"), "no"),
-];
+static ROWS: [(&str, Given, &str); 4] = rows! {
+    "a text", Given::Text("<$1>") => "no";
+    "a builtin that needs a list", Given::Named("define") => "yes";
+    "a builtin that needs none", Given::Named("dnl") => "no";
+    "a placeholder", Given::Named("format") => "no";
+};
 
 // Reports whether a definition needs a list.
 fn needs(alloc: Global, given: Given) -> Result<Vec<u8>, AllocError> {

@@ -9,29 +9,15 @@ use m4_state::bytes::Bytes;
 use std::alloc::{AllocError, Global};
 
 // A row's name, a file, a line, and the messages for an error there and for a dropped definition.
-static ROWS: [(&str, &str, u64, &str); 3] = [
-    (
-        "a line of a file",
-        "dir/a.m4",
-        18446744073709551615,
+static ROWS: [(&str, &str, u64, &str); 3] = rows! {
+    "a line of a file", "dir/a.m4", 18446744073709551615 =>
         "m4:dir/a.m4:18446744073709551615: ERROR: end of file in string\n\
-          m4:dir/a.m4:18446744073709551615: Warning: builtin dropped from text\n",
-    ),
-    (
-        "a line after 2^32 - 1",
-        "a.m4",
-        4294967296,
+         m4:dir/a.m4:18446744073709551615: Warning: builtin dropped from text\n";
+    "a line after 2^32 - 1", "a.m4", 4294967296 =>
         "m4:a.m4:4294967296: ERROR: end of file in string\n\
-          m4:a.m4:4294967296: Warning: builtin dropped from text\n",
-    ),
-    (
-        "wrapped text",
-        "",
-        0,
-        "m4: ERROR: end of file in string\n\
-          m4: Warning: builtin dropped from text\n",
-    ),
-];
+         m4:a.m4:4294967296: Warning: builtin dropped from text\n";
+    "wrapped text", "", 0 => "m4: ERROR: end of file in string\nm4: Warning: builtin dropped from text\n";
+};
 
 // Adds a message.
 fn describe(message: Result<Bytes, BuiltinFault>, report: &mut Report) {
@@ -48,10 +34,8 @@ fn messages_at(alloc: Global, file: &[u8], line: u64) -> Result<Vec<u8>, AllocEr
         line,
     };
     let mut report = Report::new(alloc);
-    describe(
-        error_message(alloc, &place, b"end of file in string"),
-        &mut report,
-    );
+    let error = error_message(alloc, &place, b"end of file in string");
+    describe(error, &mut report);
     describe(dropped_message(alloc, &place), &mut report);
     report.text()
 }

@@ -5,7 +5,7 @@ ghost use Rattle.std.specs.List.{AllByRecursion};
 ghost use Rattle.m4_builtins.specs.Args.{IsArg};
 
 use super::{Argument, call_of, text_call_of};
-use crate::given::{Given, describe_definition, made, start};
+use crate::given::{Given, describe_definition, empty_state, made};
 use crate::report::{Report, joined};
 use crate::shows::{agrees, shows};
 use m4_builtins::act::act;
@@ -25,7 +25,8 @@ use std::process::Abort;
 pub enum Step {
     /// Calls a builtin with texts in line 1 of `a.m4`, and reports the effect.
     Call(&'static str, &'static [&'static str]),
-    /// Does the same with any arguments, in this line.
+    /// Does the same in this line, with texts or with any arguments.
+    At(u64, &'static str, &'static [&'static str]),
     With(u64, &'static str, &'static [Argument]),
     /// Calls a definition by a name with any arguments, at a place.
     Other(Given, &'static str, &'static [Argument], (&'static str, u64)),
@@ -35,14 +36,15 @@ pub enum Step {
     Look(&'static str),
     /// Reports how many names there are.
     Count,
-    /// Reports the quotes.
+    /// Reports the quotes, or the comment delimiters.
     Quotes,
-    /// Reports the comment delimiters.
     Comments,
+    /// Goes on with the fresh state, which has its builtins.
+    Fresh,
 }
 
-/// A row's name, whether the state is fresh or empty, the steps, and the reports.
-pub type Row = (&'static str, bool, &'static [Step], &'static str);
+/// A row's name, the steps from an empty state, and the reports.
+pub type Row = (&'static str, &'static [Step], &'static str);
 
 /// A row's name, the arguments of a builtin, which are texts, and the text that a call of it pushes.
 pub type Pushes = (&'static str, &'static [&'static str], &'static str);
@@ -68,6 +70,11 @@ pub const EMPTY: Warning = ("empty string treated as 0 in builtin `", "'");
 
 // What is called: a definition, its name, and the place of the call.
 type Called = (Given, &'static str, (&'static str, u64));
+
+// Returns the builtin of a name, called in this line.
+fn builtin_in(line: u64, name: &'static str) -> Called {
+    (Given::Named(name), name, ("a.m4", line))
+}
 
 // Adds a line for a text.
 fn describe_text(label: &[u8], text: &[u8], report: &mut Report) {
@@ -189,14 +196,16 @@ fn count(state: &State, report: &mut Report) {
 fn do_step(alloc: Global, state: &mut State, step: Step, report: &mut Report) {
     match step {
         Step::Call(name, texts) => {
-            let called = (Given::Named(name), name, ("a.m4", 1));
             let args = text_call_of(alloc, name, texts);
-            call(alloc, state, called, args, report);
+            call(alloc, state, builtin_in(1, name), args, report);
+        }
+        Step::At(line, name, texts) => {
+            let args = text_call_of(alloc, name, texts);
+            call(alloc, state, builtin_in(line, name), args, report);
         }
         Step::With(line, name, list) => {
-            let called = (Given::Named(name), name, ("a.m4", line));
             let args = call_of(alloc, name, list);
-            call(alloc, state, called, args, report);
+            call(alloc, state, builtin_in(line, name), args, report);
         }
         Step::Other(given, name, list, place) => {
             let args = call_of(alloc, name, list);
@@ -207,40 +216,36 @@ fn do_step(alloc: Global, state: &mut State, step: Step, report: &mut Report) {
         Step::Count => count(state, report),
         Step::Quotes => describe_pair(state.quotes(), report),
         Step::Comments => describe_pair(state.comments(), report),
+        Step::Fresh => match State::fresh(alloc, false) {
+            Ok(fresh) => *state = fresh,
+            Err(StateFault::OutOfMemory) => report.refuse(),
+        },
     }
 }
 
 /// Reports a row's steps.
-pub fn report_of(alloc: Global, fresh: bool, steps: &[Step]) -> Result<Vec<u8>, AllocError> {
+pub fn report_of(alloc: Global, steps: &[Step]) -> Result<Vec<u8>, AllocError> {
+    let mut state = empty_state(alloc)?;
     let mut report = Report::new(alloc);
-    match start(alloc, fresh) {
-        Ok(mut state) => {
-            for step in steps {
-                do_step(alloc, &mut state, *step, &mut report);
-            }
-        }
-        Err(StateFault::OutOfMemory) => report.refuse(),
+    for step in steps {
+        do_step(alloc, &mut state, *step, &mut report);
     }
     report.text()
 }
 
 /// Compares the reports of each row's steps with the expected ones.
 pub fn tried(rt: &impl Abort, alloc: Global, rows: &[Row]) {
-    for &(name, fresh, steps, want) in rows {
-        shows(rt, name, want.as_bytes(), report_of(alloc, fresh, steps));
+    for &(name, steps, want) in rows {
+        shows(rt, name, want.as_bytes(), report_of(alloc, steps));
     }
 }
 
 /// Compares what each row's call of a builtin pushes, in an empty state, with the expected text. It does nothing else.
 pub fn pushed(rt: &impl Abort, alloc: Global, builtin: &'static str, rows: &[Pushes]) {
     for &(name, texts, want) in rows {
-        let got = report_of(alloc, false, &[Step::Call(builtin, texts)]);
-        agrees(
-            rt,
-            name,
-            joined(alloc, &[b"push ", want.as_bytes(), b"\n"]),
-            got,
-        );
+        let got = report_of(alloc, &[Step::Call(builtin, texts)]);
+        let want = joined(alloc, &[b"push ", want.as_bytes(), b"\n"]);
+        agrees(rt, name, want, got);
     }
 }
 
@@ -251,10 +256,8 @@ fn warning_of(alloc: Global, builtin: &str, row: &Warns) -> Result<Vec<u8>, Allo
     if let Some(text) = row.2 {
         describe_text(b"push ", text.as_bytes(), &mut report);
     }
-    report.add(b"m4:a.m4:1: Warning: ");
-    report.add(before.as_bytes());
-    report.add(builtin.as_bytes());
-    report.add(after.as_bytes());
+    report.pair(b"m4:a.m4:1: Warning: ", before.as_bytes());
+    report.pair(builtin.as_bytes(), after.as_bytes());
     report.add(b"\n");
     report.text()
 }
@@ -262,7 +265,7 @@ fn warning_of(alloc: Global, builtin: &str, row: &Warns) -> Result<Vec<u8>, Allo
 /// Compares what each row's call of a builtin pushes and the warning with the expected ones.
 pub fn warned(rt: &impl Abort, alloc: Global, builtin: &'static str, rows: &[Warns]) {
     for row in rows {
-        let got = report_of(alloc, false, &[Step::Call(builtin, row.1)]);
+        let got = report_of(alloc, &[Step::Call(builtin, row.1)]);
         agrees(rt, row.0, warning_of(alloc, builtin, row), got);
     }
 }

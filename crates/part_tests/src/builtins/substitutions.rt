@@ -22,63 +22,29 @@ type Row = (
     &'static str,
 );
 
-static ROWS: [Row; 16] = [
-    ("an empty text", "", &["a"], USUAL, ""),
-    (
-        "text with no dollar",
-        "plain # text\x00\n",
-        &["a"],
-        USUAL,
-        "plain # text\x00\n",
-    ),
-    ("an argument twice", "$1$1", &["a"], USUAL, "aa"),
-    ("an argument that is missing", "<$2>", &["a"], USUAL, "<>"),
-    (
-        "how many, all of them, and a letter after a dollar",
-        "$#|$*|$2$11|$x",
-        &["a", "b", ""],
-        USUAL,
-        "3|a,b,|b|$x",
-    ),
-    ("the name", "$0($1)", &["a"], USUAL, "f(a)"),
-    (
-        "all of them in quotes",
-        "$@",
-        &["a", "", "$1"],
-        USUAL,
-        "`a',`',`$1'",
-    ),
-    ("no arguments", "$#$*$@", &[], USUAL, "0"),
-    ("a dollar after a dollar", "$$1$", &["a"], USUAL, "$a$"),
-    ("a dollar at the end", "end$", &["a"], USUAL, "end$"),
-    ("a number with a zero in front", "$01", &["a"], USUAL, "a"),
-    (
-        "the tenth argument",
-        "$10",
-        &["1", "2", "3", "4", "5", "6", "7", "8", "9", "x"],
-        USUAL,
-        "x",
-    ),
-    ("2^64", "$18446744073709551616!", &["a"], USUAL, "!"),
-    ("2^64 + 1", "$18446744073709551617!", &["a"], USUAL, "!"),
-    (
-        "quotes of two bytes",
-        "$@",
-        &["a", "b"],
-        ("[[", "]]"),
-        "[[a]],[[b]]",
-    ),
-    ("no quotes", "$@", &["a", "b"], ("", ""), "a,b"),
-];
+static ROWS: [Row; 16] = rows! {
+    "an empty text", "", &["a"], USUAL => "";
+    "text with no dollar", "plain # text\x00\n", &["a"], USUAL => "plain # text\x00\n";
+    "an argument twice", "$1$1", &["a"], USUAL => "aa";
+    "an argument that is missing", "<$2>", &["a"], USUAL => "<>";
+    "how many, all of them, and a letter after a dollar", "$#|$*|$2$11|$x", &["a", "b", ""], USUAL => "3|a,b,|b|$x";
+    "the name", "$0($1)", &["a"], USUAL => "f(a)";
+    "all of them in quotes", "$@", &["a", "", "$1"], USUAL => "`a',`',`$1'";
+    "no arguments", "$#$*$@", &[], USUAL => "0";
+    "a dollar after a dollar", "$$1$", &["a"], USUAL => "$a$";
+    "a dollar at the end", "end$", &["a"], USUAL => "end$";
+    "a number with a zero in front", "$01", &["a"], USUAL => "a";
+    "the tenth argument", "$10", &["1", "2", "3", "4", "5", "6", "7", "8", "9", "x"], USUAL => "x";
+    "2^64", "$18446744073709551616!", &["a"], USUAL => "!";
+    "2^64 + 1", "$18446744073709551617!", &["a"], USUAL => "!";
+    "quotes of two bytes", "$@", &["a", "b"], ("[[", "]]") => "[[a]],[[b]]";
+    "no quotes", "$@", &["a", "b"], ("", "") => "a,b";
+};
 
 // Returns the expansion of a text.
 fn given(alloc: Global, text: &str, args: &Args, quotes: Quotes) -> Result<Vec<u8>, AllocError> {
-    match substitute(
-        alloc,
-        text.as_bytes(),
-        args,
-        (quotes.0.as_bytes(), quotes.1.as_bytes()),
-    ) {
+    let quotes = (quotes.0.as_bytes(), quotes.1.as_bytes());
+    match substitute(alloc, text.as_bytes(), args, quotes) {
         Ok(got) => joined(alloc, &[got.as_slice()]),
         Err(_refused) => Err(AllocError),
     }

@@ -15,18 +15,10 @@ const BYTES: &[u8] = b"some bytes, of which \x00 and \xff are two";
 const SIZES: [usize; 4] = [1, 2, 7, 4096];
 
 // A row's name, whether the reader fails after its last byte, and the result of reading it.
-static READERS: [(&str, bool, &[u8]); 2] = [
-    (
-        "a reader that ends",
-        false,
-        b"some bytes, of which \x00 and \xff are two; ended after 36",
-    ),
-    (
-        "a reader that fails",
-        true,
-        b"some bytes, of which \x00 and \xff are two; failed after 36",
-    ),
-];
+static READERS: [(&str, bool, &[u8]); 2] = rows! {
+    "a reader that ends", false => b"some bytes, of which \x00 and \xff are two; ended after 36";
+    "a reader that fails", true => b"some bytes, of which \x00 and \xff are two; failed after 36";
+};
 
 // Reads all of a reader over the bytes, and reports how it ends.
 fn taken_of(alloc: Global, at_most: usize, fails: bool) -> Result<Vec<u8>, AllocError> {
@@ -87,11 +79,11 @@ fn takes_of(alloc: Global, bytes: &[u8], fails: bool) -> Result<Vec<u8>, AllocEr
 }
 
 // A row's name, the bytes of a reader, whether it fails after them, and the results.
-static TAKES: [(&str, &[u8], bool, &[u8]); 3] = [
-    ("at the end", b"ab", false, b"2 0 0 "),
-    ("amid", b"ab", true, b"2 fault fault "),
-    ("at once", b"", true, b"fault fault fault "),
-];
+static TAKES: [(&str, &[u8], bool, &[u8]); 3] = rows! {
+    "at the end", b"ab", false => b"2 0 0 ";
+    "amid", b"ab", true => b"2 fault fault ";
+    "at once", b"", true => b"fault fault fault ";
+};
 
 #[test]
 fn readers_end_and_fail_again(rt: HostRuntime) {
@@ -134,15 +126,10 @@ fn put_where(alloc: Global, room: usize) -> Result<Vec<u8>, AllocError> {
 fn bytes_are_put_up_to_the_room(rt: HostRuntime) {
     for room in 0..=BYTES.len() {
         for &at_most in &SIZES {
+            let name = "a writer with room for this";
             let got = put_into(rt.alloc(), room, at_most);
             let want = put_where(rt.alloc(), room);
-            agrees_cut(
-                &rt,
-                "a writer with room for this",
-                (at_most, room),
-                want,
-                got,
-            );
+            agrees_cut(&rt, name, (at_most, room), want, got);
         }
     }
 }
@@ -173,16 +160,8 @@ fn puts_of(alloc: Global) -> Result<Vec<u8>, AllocError> {
 
 #[test]
 fn pieces_and_a_full_writer(rt: HostRuntime) {
-    shows(
-        &rt,
-        "pieces in their order",
-        b"onetwothr; fault",
-        pieces_put(rt.alloc()),
-    );
-    shows(
-        &rt,
-        "nothing is taken once it is full",
-        b"2 fault ab",
-        puts_of(rt.alloc()),
-    );
+    let pieces = pieces_put(rt.alloc());
+    shows(&rt, "pieces in their order", b"onetwothr; fault", pieces);
+    let puts = puts_of(rt.alloc());
+    shows(&rt, "nothing is taken once it is full", b"2 fault ab", puts);
 }

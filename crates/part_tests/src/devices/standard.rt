@@ -84,34 +84,15 @@ impl Write for Scripted {
 }
 
 // A row's name, the results of a reader, and the bytes read from it.
-static READERS: [(&str, &[Answer], &[u8]); 4] = [
-    (
-        "a reader that ends",
-        &[
-            Answer::Gives(b"\x00ab"),
-            Answer::Gives(b"c\xff"),
-            Answer::Gives(b""),
-        ],
-        b"\x00abc\xff; ended",
-    ),
-    (
-        "a reader that fails in mid-stream",
-        &[
-            Answer::Gives(b"ab"),
-            Answer::Gives(b"cde"),
-            Answer::Fails,
-            Answer::Gives(b"fgh"),
-            Answer::Gives(b""),
-        ],
-        b"abcde; failed",
-    ),
-    ("a reader that fails at once", &[Answer::Fails], b"; failed"),
-    (
-        "a reader that gives nothing",
-        &[Answer::Gives(b"")],
-        b"; ended",
-    ),
-];
+static READERS: [(&str, &[Answer], &[u8]); 4] = rows! {
+    "a reader that ends", &[Answer::Gives(b"\x00ab"), Answer::Gives(b"c\xff"), Answer::Gives(b"")] =>
+        b"\x00abc\xff; ended";
+    "a reader that fails in mid-stream",
+        &[Answer::Gives(b"ab"), Answer::Gives(b"cde"), Answer::Fails, Answer::Gives(b"fgh"), Answer::Gives(b"")] =>
+        b"abcde; failed";
+    "a reader that fails at once", &[Answer::Fails] => b"; failed";
+    "a reader that gives nothing", &[Answer::Gives(b"")] => b"; ended";
+};
 
 // Reads all of a reader, and reports how it ends.
 fn taken_of(alloc: Global, script: &'static [Answer]) -> Result<Vec<u8>, AllocError> {
@@ -136,33 +117,13 @@ fn all_is_taken_of_a_reader(rt: HostRuntime) {
 
 // A row's name, the results of a writer, and the report on writing all of `abcdefgh` to it, then `ij` once, and on a
 // flush: the bytes that arrived, whether the first was written, the result of the second, and whether it was flushed.
-static WRITERS: [(&str, &[Answer], &[u8]); 5] = [
-    (
-        "a writer that takes all",
-        &[Answer::Takes(4096)],
-        b"abcdefghij; put; 2; flushed",
-    ),
-    (
-        "a writer that takes 3 bytes at a time",
-        &[Answer::Takes(3)],
-        b"abcdefghij; put; 2; flushed",
-    ),
-    (
-        "a writer that answers 0",
-        &[Answer::Takes(3), Answer::Takes(0)],
-        b"abc; fault; fault; flushed",
-    ),
-    (
-        "a writer that fails",
-        &[Answer::Takes(3), Answer::Fails],
-        b"abc; fault; fault; fault",
-    ),
-    (
-        "a writer that fails once",
-        &[Answer::Takes(3), Answer::Fails, Answer::Takes(1)],
-        b"abci; fault; 1; flushed",
-    ),
-];
+static WRITERS: [(&str, &[Answer], &[u8]); 5] = rows! {
+    "a writer that takes all", &[Answer::Takes(4096)] => b"abcdefghij; put; 2; flushed";
+    "a writer that takes 3 bytes at a time", &[Answer::Takes(3)] => b"abcdefghij; put; 2; flushed";
+    "a writer that answers 0", &[Answer::Takes(3), Answer::Takes(0)] => b"abc; fault; fault; flushed";
+    "a writer that fails", &[Answer::Takes(3), Answer::Fails] => b"abc; fault; fault; fault";
+    "a writer that fails once", &[Answer::Takes(3), Answer::Fails, Answer::Takes(1)] => b"abci; fault; 1; flushed";
+};
 
 // Adds the results of writing all of some bytes, and of writing once.
 fn describe_puts(

@@ -1,12 +1,11 @@
 //! A file with each builtin of GNU m4 under its name, as it freezes its first state: cut at each byte, and written
 //! again. Nothing is loaded of a file that ends within a directive. Manual: "Frozen file format".
 
-use super::{BLOCKS, ROOM, describe, read, refused, write_canonical};
+use super::{BLOCKS, ROOM, again, describe, refused};
 use crate::names_of_m4::{CANONICAL, FILE};
 use crate::report::{Report, joined};
 use crate::shows::{agrees_by, agrees_cut};
 use m4_frozen::fault::{FrozenFault, FrozenKind};
-use m4_state::memory::MemSink;
 use std::alloc::{AllocError, Global};
 
 // Where the file may be cut: after the version and each directive, and anywhere in the last comment.
@@ -48,23 +47,12 @@ fn a_file_of_each_name_is_cut_at_each_byte(rt: HostRuntime) {
     }
 }
 
-// Writes the state of a file again.
-fn again(alloc: Global, file: &str, block: usize) -> Result<Vec<u8>, AllocError> {
-    let mut writer = MemSink::new(alloc, ROOM, block.max(1))?;
-    let mut report = Report::new(alloc);
-    match read(alloc, file.as_bytes(), block, false) {
-        Ok(loaded) => write_canonical(&loaded.state, &mut writer, &mut report),
-        Err(fault) => describe(alloc, fault, &mut report),
-    }
-    report.text()
-}
-
 #[test]
 fn a_file_of_each_name_is_written_again(rt: HostRuntime) {
     for file in [FILE, CANONICAL] {
         for &block in &BLOCKS {
             let want = joined(rt.alloc(), &[CANONICAL.as_bytes(), b"; written\n"]);
-            let got = again(rt.alloc(), file, block);
+            let got = again(rt.alloc(), file.as_bytes(), block, ROOM);
             agrees_by(&rt, "a file of each name", block, want, got);
         }
     }

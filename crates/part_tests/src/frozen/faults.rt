@@ -3,266 +3,134 @@
 use super::{BLOCK, BLOCKS, after_a_comment, describe, refused};
 use crate::report::{Report, printed};
 use crate::shows::{agrees_by, agrees_cut, shows};
+use m4_frozen::fault::FrozenKind::{
+    DigitExpected, Newer, NoVersion, NumberTooLarge, OutOfMemory, PrematureEnd, Read,
+    SecondVersion, SeparatorExpected, UnknownDirective, VersionZero,
+};
 use m4_frozen::fault::{FrozenFault, FrozenKind, WriteFault};
 use m4_frozen::reading::read_frozen;
 use m4_state::memory::MemSource;
 use std::alloc::{AllocError, Global};
 use std::process::Abort;
 
-// A row's name, the text read, whether the reader failed after them, and the fault with its offset.
-type Row = (&'static str, &'static str, bool, FrozenKind, usize);
+// A row's name, the text read, and the fault with its offset.
+type Row = (&'static str, &'static str, (FrozenKind, usize));
 
 // Versions, and their lack.
-static VERSIONS: [Row; 6] = [
-    ("an empty file", "", false, FrozenKind::NoVersion, 0),
-    ("no version", "T0,0\n\n", false, FrozenKind::NoVersion, 0),
-    (
-        "a newer version after a comment and an empty line",
-        "# c\n\nV2\n",
-        false,
-        FrozenKind::Newer,
-        6,
-    ),
-    (
-        "a newer version before a wrong byte",
-        "V2x",
-        false,
-        FrozenKind::Newer,
-        1,
-    ),
-    (
-        "version 0 with no newline",
-        "V0",
-        false,
-        FrozenKind::VersionZero,
-        1,
-    ),
-    (
-        "a second version",
-        "V1\nV1\n",
-        false,
-        FrozenKind::SecondVersion,
-        3,
-    ),
-];
+static VERSIONS: [Row; 6] = rows! {
+    "an empty file", "" => (NoVersion, 0);
+    "no version", "T0,0\n\n" => (NoVersion, 0);
+    "a newer version after a comment and an empty line", "# c\n\nV2\n" => (Newer, 6);
+    "a newer version before a wrong byte", "V2x" => (Newer, 1);
+    "version 0 with no newline", "V0" => (VersionZero, 1);
+    "a second version", "V1\nV1\n" => (SecondVersion, 3);
+};
 
 // What is wrong in a directive or after it.
-static DIRECTIVES: [Row; 14] = [
-    (
-        "a letter that begins no directive",
-        "V1\nX",
-        false,
-        FrozenKind::UnknownDirective,
-        3,
-    ),
-    (
-        "a line that is a blank",
-        "V1\n \n",
-        false,
-        FrozenKind::UnknownDirective,
-        3,
-    ),
-    (
-        "a letter after a diversion's text",
-        "V1\nD0,3\nhi\n\nX\n",
-        false,
-        FrozenKind::UnknownDirective,
-        12,
-    ),
-    (
-        "a negative length",
-        "V1\nT-1,0\n\n",
-        false,
-        FrozenKind::DigitExpected,
-        4,
-    ),
-    (
-        "a diversion's number above 2^31 - 1",
-        "V1\nD2147483648,0\n\n",
-        false,
-        FrozenKind::NumberTooLarge,
-        4,
-    ),
-    (
-        "a diversion's number below -2^31",
-        "V1\nD-2147483649,0\n\n",
-        false,
-        FrozenKind::NumberTooLarge,
-        4,
-    ),
-    (
-        "a length above 2^64 - 1",
-        "V1\nT1,18446744073709551616\na",
-        false,
-        FrozenKind::NumberTooLarge,
-        6,
-    ),
-    (
-        "the greatest length, for a text after a name",
-        "V1\nT1,18446744073709551615\na",
-        false,
-        FrozenKind::PrematureEnd,
-        28,
-    ),
-    (
-        "the greatest length, for a text that begins",
-        "V1\nT1,18446744073709551615\nabc",
-        false,
-        FrozenKind::PrematureEnd,
-        30,
-    ),
-    (
-        "a blank after the version",
-        "V1 \n",
-        false,
-        FrozenKind::SeparatorExpected,
-        2,
-    ),
-    (
-        "a letter after the version",
-        "V1x",
-        false,
-        FrozenKind::SeparatorExpected,
-        2,
-    ),
-    (
-        "a newline before a comma",
-        "V1\nT1\n,1\nab\n",
-        false,
-        FrozenKind::SeparatorExpected,
-        5,
-    ),
-    (
-        "a text longer than its length",
-        "V1\nT1,1\nabc\n",
-        false,
-        FrozenKind::SeparatorExpected,
-        10,
-    ),
-    (
-        "the version alone",
-        "V1",
-        false,
-        FrozenKind::PrematureEnd,
-        2,
-    ),
-];
+static DIRECTIVES: [Row; 14] = rows! {
+    "a letter that begins no directive", "V1\nX" => (UnknownDirective, 3);
+    "a line that is a blank", "V1\n \n" => (UnknownDirective, 3);
+    "a letter after a diversion's text", "V1\nD0,3\nhi\n\nX\n" => (UnknownDirective, 12);
+    "a negative length", "V1\nT-1,0\n\n" => (DigitExpected, 4);
+    "a diversion's number above 2^31 - 1", "V1\nD2147483648,0\n\n" => (NumberTooLarge, 4);
+    "a diversion's number below -2^31", "V1\nD-2147483649,0\n\n" => (NumberTooLarge, 4);
+    "a length above 2^64 - 1", "V1\nT1,18446744073709551616\na" => (NumberTooLarge, 6);
+    "the greatest length, for a text after a name", "V1\nT1,18446744073709551615\na" => (PrematureEnd, 28);
+    "the greatest length, for a text that begins", "V1\nT1,18446744073709551615\nabc" => (PrematureEnd, 30);
+    "a blank after the version", "V1 \n" => (SeparatorExpected, 2);
+    "a letter after the version", "V1x" => (SeparatorExpected, 2);
+    "a newline before a comma", "V1\nT1\n,1\nab\n" => (SeparatorExpected, 5);
+    "a text longer than its length", "V1\nT1,1\nabc\n" => (SeparatorExpected, 10);
+    "the version alone", "V1" => (PrematureEnd, 2);
+};
 
-// A reader that failed.
-static FAILED: [Row; 10] = [
-    (
-        "failed after a directive",
-        "V1\nT1,1\nab\n",
-        true,
-        FrozenKind::Read,
-        11,
-    ),
-    ("failed in a length", "V1\nT1", true, FrozenKind::Read, 5),
-    ("failed after the version", "V1", true, FrozenKind::Read, 2),
-    ("failed after version 0", "V0", true, FrozenKind::Read, 2),
-    ("failed at once", "", true, FrozenKind::Read, 0),
-    (
-        "version 0 before the failure",
-        "V0\n",
-        true,
-        FrozenKind::VersionZero,
-        1,
-    ),
-    (
-        "a wrong letter before the failure",
-        "V1\nX",
-        true,
-        FrozenKind::UnknownDirective,
-        3,
-    ),
-    (
-        "a newer version before the failure",
-        "V2",
-        true,
-        FrozenKind::Newer,
-        1,
-    ),
-    (
-        "a length above 2^64 - 1 before the failure",
-        "V1\nT18446744073709551616",
-        true,
-        FrozenKind::NumberTooLarge,
-        4,
-    ),
-    (
-        "a text longer than its length before the failure",
-        "V1\nT1,1\nabc",
-        true,
-        FrozenKind::SeparatorExpected,
-        10,
-    ),
-];
+// Lengths of 2^64 - 1, which no memory has: the file ends too early.
+static LENGTHS: [Row; 9] = rows! {
+    "a text's name", "V1\nT18446744073709551615,1\nab" => (PrematureEnd, 29);
+    "a builtin's name", "V1\nF18446744073709551615,1\nab" => (PrematureEnd, 29);
+    "the first of the quotes", "V1\nQ18446744073709551615,1\n[]" => (PrematureEnd, 29);
+    "the second of the quotes", "V1\nQ1,18446744073709551615\n[]" => (PrematureEnd, 29);
+    "both quotes", "V1\nQ18446744073709551615,18446744073709551615\n[]" => (PrematureEnd, 48);
+    "the first of the comment delimiters", "V1\nC18446744073709551615,1\n#\n" => (PrematureEnd, 29);
+    "the second of the comment delimiters", "V1\nC1,18446744073709551615\n#\n" => (PrematureEnd, 29);
+    "both comment delimiters", "V1\nC18446744073709551615,18446744073709551615\n#\n" => (PrematureEnd, 48);
+    "a diversion's text", "V1\nD1,18446744073709551615\nab" => (PrematureEnd, 29);
+};
 
-// Returns a fault as text.
-fn fault_text(alloc: Global, kind: FrozenKind, offset: usize) -> Result<Vec<u8>, AllocError> {
+// What is found where the reader fails after the text.
+static FAILED: [Row; 10] = rows! {
+    "failed after a directive", "V1\nT1,1\nab\n" => (Read, 11);
+    "failed in a length", "V1\nT1" => (Read, 5);
+    "failed after the version", "V1" => (Read, 2);
+    "failed after version 0", "V0" => (Read, 2);
+    "failed at once", "" => (Read, 0);
+    "version 0 before the failure", "V0\n" => (VersionZero, 1);
+    "a wrong letter before the failure", "V1\nX" => (UnknownDirective, 3);
+    "a newer version before the failure", "V2" => (Newer, 1);
+    "a length above 2^64 - 1 before the failure", "V1\nT18446744073709551616" => (NumberTooLarge, 4);
+    "a text longer than its length before the failure", "V1\nT1,1\nabc" => (SeparatorExpected, 10);
+};
+
+// Returns a fault as text, if its offset is counted from this byte on.
+fn fault_text(
+    alloc: Global,
+    fault: (FrozenKind, usize),
+    from: usize,
+) -> Result<Vec<u8>, AllocError> {
     let mut report = Report::new(alloc);
-    let offset = offset as u64;
+    let (kind, offset) = (fault.0, from.saturating_add(fault.1) as u64);
     describe(alloc, FrozenFault { kind, offset }, &mut report);
     report.text()
 }
 
-// Compares how reading ends with blocks of each size.
-fn compare(
-    alloc: Global,
-    rt: &impl Abort,
-    name: &str,
-    bytes: &[u8],
-    fails: bool,
-    fault: (FrozenKind, usize),
-) {
+// Compares how reading a row's text ends with blocks of each size.
+fn compare(alloc: Global, rt: &impl Abort, row: &Row, fails: bool) {
     for &block in &BLOCKS {
-        let want = fault_text(alloc, fault.0, fault.1);
-        agrees_by(rt, name, block, want, refused(alloc, bytes, block, fails));
+        let got = refused(alloc, row.1.as_bytes(), block, fails);
+        agrees_by(rt, row.0, block, fault_text(alloc, row.2, 0), got);
     }
 }
 
-// Reports how reading a row's bytes ends if the first block ends this many bytes after their start.
-fn refused_later(
+// Reports how reading ends after a comment of so many bytes.
+fn refused_after(
     alloc: Global,
-    bytes: &[u8],
-    cut: usize,
+    before: usize,
+    text: &str,
     fails: bool,
 ) -> Result<Vec<u8>, AllocError> {
-    let file = after_a_comment(alloc, BLOCK.saturating_sub(cut), bytes)?;
+    let file = after_a_comment(alloc, before, text.as_bytes())?;
     refused(alloc, &file, 4096, fails)
 }
 
-// Compares how reading ends if the first block ends at each of these bytes.
-fn compare_later(
-    alloc: Global,
-    rt: &impl Abort,
-    name: &str,
-    bytes: &[u8],
-    fails: bool,
-    fault: (FrozenKind, usize),
-) {
-    for cut in 0..=bytes.len() {
-        let offset = BLOCK.saturating_sub(cut).saturating_add(fault.1);
-        let want = fault_text(alloc, fault.0, offset);
-        let got = refused_later(alloc, bytes, cut, fails);
-        agrees_cut(rt, name, (4096, cut), want, got);
+// Compares how reading a row's text ends if the first block ends at each of its bytes.
+fn compare_later(alloc: Global, rt: &impl Abort, row: &Row, fails: bool) {
+    for cut in 0..=row.1.len() {
+        let before = BLOCK.saturating_sub(cut);
+        let got = refused_after(alloc, before, row.1, fails);
+        agrees_cut(
+            rt,
+            row.0,
+            (4096, cut),
+            fault_text(alloc, row.2, before),
+            got,
+        );
     }
 }
 
-// Compares how reading each row ends, from the first block on and in later ones.
-fn placed(alloc: Global, rt: &impl Abort, rows: &[Row]) {
-    for &(name, text, fails, kind, offset) in rows {
-        let (bytes, fault) = (text.as_bytes(), (kind, offset));
-        compare(alloc, rt, name, bytes, fails, fault);
-        compare_later(alloc, rt, name, bytes, fails, fault);
+// Compares how reading each row's text ends, from the first block on and in later ones.
+fn placed(alloc: Global, rt: &impl Abort, rows: &[Row], fails: bool) {
+    for row in rows {
+        compare(alloc, rt, row, fails);
+        compare_later(alloc, rt, row, fails);
     }
 }
 
 #[test]
 fn faults_are_placed_in_the_first_block_and_in_later_ones(rt: HostRuntime) {
-    placed(rt.alloc(), &rt, &VERSIONS);
-    placed(rt.alloc(), &rt, &DIRECTIVES);
-    placed(rt.alloc(), &rt, &FAILED);
+    placed(rt.alloc(), &rt, &VERSIONS, false);
+    placed(rt.alloc(), &rt, &DIRECTIVES, false);
+    placed(rt.alloc(), &rt, &LENGTHS, false);
+    placed(rt.alloc(), &rt, &FAILED, true);
 }
 
 // The line of the version, two directives and a comment: 3, 8, 9 and 4 bytes.
@@ -271,9 +139,9 @@ const CUT: &[u8] = b"V1\nT1,1\nab\nD2,3\nx\ny\n# e\n";
 // Returns the expected report for a prefix of `CUT`.
 fn beginning(alloc: Global, len: usize) -> Result<Vec<u8>, AllocError> {
     match len {
-        0 => fault_text(alloc, FrozenKind::NoVersion, 0),
+        0 => fault_text(alloc, (NoVersion, 0), 0),
         3 | 11 | 20..=24 => Vec::from_slice(alloc, b"loaded"),
-        _ => fault_text(alloc, FrozenKind::PrematureEnd, len),
+        _ => fault_text(alloc, (PrematureEnd, len), 0),
     }
 }
 
@@ -325,25 +193,25 @@ fn a_reader_fails_after_each_byte(rt: HostRuntime) {
 }
 
 // Each kind and its text, as a message prints it.
-static TEXTS: [(FrozenKind, &str); 11] = [
-    (FrozenKind::NoVersion, "F1 NoVersion"),
-    (FrozenKind::Newer, "F2 Newer"),
-    (FrozenKind::VersionZero, "F3 VersionZero"),
-    (FrozenKind::SecondVersion, "F4 SecondVersion"),
-    (FrozenKind::UnknownDirective, "F5 UnknownDirective"),
-    (FrozenKind::DigitExpected, "F6 DigitExpected"),
-    (FrozenKind::NumberTooLarge, "F7 NumberTooLarge"),
-    (FrozenKind::SeparatorExpected, "F8 SeparatorExpected"),
-    (FrozenKind::PrematureEnd, "F9 PrematureEnd"),
-    (FrozenKind::Read, "F10 Read"),
-    (FrozenKind::OutOfMemory, "F11 OutOfMemory"),
-];
+static TEXTS: [(FrozenKind, &str); 11] = rows! {
+    NoVersion => "F1 NoVersion";
+    Newer => "F2 Newer";
+    VersionZero => "F3 VersionZero";
+    SecondVersion => "F4 SecondVersion";
+    UnknownDirective => "F5 UnknownDirective";
+    DigitExpected => "F6 DigitExpected";
+    NumberTooLarge => "F7 NumberTooLarge";
+    SeparatorExpected => "F8 SeparatorExpected";
+    PrematureEnd => "F9 PrematureEnd";
+    Read => "F10 Read";
+    OutOfMemory => "F11 OutOfMemory";
+};
 
 // The same for texts that were not written completely.
-static WRITE_TEXTS: [(WriteFault, &str); 2] = [
-    (WriteFault::Write, "G1 Write"),
-    (WriteFault::OutOfMemory, "G2 OutOfMemory"),
-];
+static WRITE_TEXTS: [(WriteFault, &str); 2] = rows! {
+    WriteFault::Write => "G1 Write";
+    WriteFault::OutOfMemory => "G2 OutOfMemory";
+};
 
 #[test]
 fn faults_are_printed(rt: HostRuntime) {

@@ -9,33 +9,18 @@ use m4_state::memory::MemSink;
 use std::alloc::{AllocError, Global};
 
 // A row's name, a file, and the lines that are listed for it.
-static ROWS: [(&str, &[u8], &[u8]); 5] = [
-    (
-        "a placeholder, under its name and another one",
-        b"V1\nF6,6\nformatformat\nF3,6\nfmtformat\n",
-        b"quotes ` '\ncomments # \\0a\nplaceholder fmt format\nplaceholder format format\ncurrent 0\n",
-    ),
-    (
-        "a text, a builtin and a diversion",
-        b"V1\nT1,1\nab\nF3,5\ncutshift\nD2,4\ntwo\n\n",
-        b"quotes ` '\ncomments # \\0a\ntext a 1\nbuiltin cut shift\ndiversion 2 4\ncurrent 2\n",
-    ),
-    (
-        "diversions, and text that is issued",
-        b"V1\nD0,2\nab\nD0,1\nc\nD2,1\nx\nD2,1\ny\nD-1,2\nzz\n",
-        b"quotes ` '\ncomments # \\0a\ndiversion 2 2\ncurrent -1\nissued 3\n",
-    ),
-    (
-        "no delimiters, an empty name and a text that is a blank",
-        b"V1\nQ0,0\n\nC0,0\n\nT0,0\n\nT1,0\n \n",
-        b"quotes none\ncomments none\ntext \\. 0\ntext \\20 0\ncurrent 0\n",
-    ),
-    (
-        "the bytes next to those that are shown as they are, and the backslash",
-        b"V1\nT7,1\n\x00 !\\~\x7f\xff\x00\n",
-        b"quotes ` '\ncomments # \\0a\ntext \\00\\20!\\5c~\\7f\\ff 1\ncurrent 0\n",
-    ),
-];
+static ROWS: [(&str, &[u8], &[u8]); 5] = rows! {
+    "a placeholder, under its name and another one", b"V1\nF6,6\nformatformat\nF3,6\nfmtformat\n" =>
+        b"quotes ` '\ncomments # \\0a\nplaceholder fmt format\nplaceholder format format\ncurrent 0\n";
+    "a text, a builtin and a diversion", b"V1\nT1,1\nab\nF3,5\ncutshift\nD2,4\ntwo\n\n" =>
+        b"quotes ` '\ncomments # \\0a\ntext a 1\nbuiltin cut shift\ndiversion 2 4\ncurrent 2\n";
+    "diversions, and text that is issued", b"V1\nD0,2\nab\nD0,1\nc\nD2,1\nx\nD2,1\ny\nD-1,2\nzz\n" =>
+        b"quotes ` '\ncomments # \\0a\ndiversion 2 2\ncurrent -1\nissued 3\n";
+    "no delimiters, an empty name and a text that is a blank", b"V1\nQ0,0\n\nC0,0\n\nT0,0\n\nT1,0\n \n" =>
+        b"quotes none\ncomments none\ntext \\. 0\ntext \\20 0\ncurrent 0\n";
+    "the bytes next to those that are shown as they are, and the backslash", b"V1\nT7,1\n\x00 !\\~\x7f\xff\x00\n" =>
+        b"quotes ` '\ncomments # \\0a\ntext \\00\\20!\\5c~\\7f\\ff 1\ncurrent 0\n";
+};
 
 // Adds the bytes of the lines that a writer receives.
 fn write(loaded: &Loaded, writer: &mut MemSink, report: &mut Report) {

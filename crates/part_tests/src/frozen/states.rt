@@ -1,90 +1,30 @@
 //! States and their canonical text, and the state of a loaded file.
 
 use super::{HEAD, LAST, ROOM, describe, read, write_canonical};
-use crate::given::empty_state;
+use crate::given::Given::Text;
 use crate::report::{Report, joined};
 use crate::shows::{agrees, shows};
+use crate::state::steps::{Row, Step, state_after};
 use m4_frozen::loading::Loaded;
-use m4_state::bytes::Bytes;
-use m4_state::definition::Def;
-use m4_state::fault::StateFault;
 use m4_state::memory::MemSink;
-use m4_state::state::State;
 use std::alloc::{AllocError, Global};
-
-// A change of a state.
-#[derive(Clone, Copy)]
-enum Step {
-    // Defines a name as a text.
-    Define(&'static str, &'static str),
-    // Removes a name's definitions.
-    Undefine(&'static str),
-    // Diverts to a number, and adds a text there.
-    Divert(i32, &'static str),
-}
 
 // A row's name, the steps from an empty state, and the canonical text without its first two lines and
 // its last one.
-static ROWS: [(&str, &[Step], &str); 2] = [
-    (
-        "a text and a diversion that is not the current one",
-        &[
-            Step::Define("a", "b"),
-            Step::Divert(3, "later"),
-            Step::Divert(0, ""),
-        ],
-        "T1,1\nab\nD3,5\nlater\nD0,0\n\n",
-    ),
-    (
-        "a name that was undefined and defined again",
-        &[
-            Step::Define("b", "B"),
-            Step::Define("a", "A"),
-            Step::Define("c", "C"),
-            Step::Undefine("b"),
-            Step::Define("b", "B"),
-        ],
-        "T1,1\naA\nT1,1\nbB\nT1,1\ncC\n",
-    ),
-];
-
-// Performs a step.
-fn do_step(alloc: Global, state: &mut State, step: Step) -> Result<(), StateFault> {
-    match step {
-        Step::Define(name, text) => {
-            let name = Bytes::from_slice(alloc, name.as_bytes())?;
-            let text = Bytes::from_slice(alloc, text.as_bytes())?;
-            state.define(name, Def::Text(text))
-        }
-        Step::Undefine(name) => {
-            state.undefine(name.as_bytes());
-            Ok(())
-        }
-        Step::Divert(number, text) => {
-            state.divert(number);
-            state.append(text.as_bytes())
-        }
-    }
-}
-
-// Adds the canonical text of a state.
-fn add_canonical(alloc: Global, state: &State, report: &mut Report) {
-    match MemSink::new(alloc, ROOM, 4096) {
-        Ok(mut writer) => write_canonical(state, &mut writer, report),
-        Err(AllocError) => report.refuse(),
-    }
-}
+static ROWS: [Row; 2] = step_rows! {
+    "a text and a diversion that is not the current one", [Define("a", Text("b")), Divert(3, "later"), Divert(0, "")] =>
+        "T1,1\nab\nD3,5\nlater\nD0,0\n\n";
+    "a name that was undefined and defined again",
+        [Define("b", Text("B")), Define("a", Text("A")), Define("c", Text("C")), Undefine("b"),
+         Define("b", Text("B"))] =>
+        "T1,1\naA\nT1,1\nbB\nT1,1\ncC\n";
+};
 
 // Returns the canonical text of a row's state.
 fn frozen(alloc: Global, steps: &[Step]) -> Result<Vec<u8>, AllocError> {
-    let mut state = empty_state(alloc)?;
     let mut report = Report::new(alloc);
-    for step in steps {
-        if do_step(alloc, &mut state, *step).is_err() {
-            report.refuse();
-        }
-    }
-    add_canonical(alloc, &state, &mut report);
+    let state = state_after(alloc, steps, &mut report)?;
+    write_canonical(&state, &mut MemSink::new(alloc, ROOM, 4096)?, &mut report);
     report.text()
 }
 

@@ -12,77 +12,37 @@ use std::alloc::{AllocError, Global};
 // A row's name, a text, whether more bytes may follow, and its first token.
 type Row = (&'static str, &'static str, bool, &'static str);
 
-static ROWS: [Row; 27] = [
-    ("a string", "`a b'c", false, "delimited string a b of 5"),
-    (
-        "a string within a string",
-        "``a'' ",
-        false,
-        "delimited string `a' of 5",
-    ),
-    ("an empty string", "`'", false, "delimited string  of 2"),
-    (
-        "a string without an end",
-        "`a",
-        false,
-        "delimited string without an end",
-    ),
-    ("an end-quote", "'a", false, "plain byte '"),
+static ROWS: [Row; 27] = rows! {
+    "a string", "`a b'c", false => "delimited string a b of 5";
+    "a string within a string", "``a'' ", false => "delimited string `a' of 5";
+    "an empty string", "`'", false => "delimited string  of 2";
+    "a string without an end", "`a", false => "delimited string without an end";
+    "an end-quote", "'a", false => "plain byte '";
     // other tokens
-    ("an empty text", "", false, "end"),
-    ("a name", "ab(c", false, "plain name ab"),
-    ("a name at the end", "ab", false, "plain name ab"),
-    ("a name with a digit", "f1 f", false, "plain name f1"),
-    ("an underscore", "_f", false, "plain name _f"),
-    ("a digit", "1f", false, "plain byte 1"),
-    ("a parenthesis that opens", "(a", false, "plain byte ("),
-    ("a comma", ",a", false, "plain byte ,"),
-    ("a blank", " a", false, "plain byte  "),
-    ("a newline", "\na", false, "plain byte \n"),
-    ("a comment", "# b\nc", false, "delimited comment # b\n"),
-    (
-        "a comment that begins a word",
-        "#b c\n",
-        false,
-        "delimited comment #b c\n",
-    ),
-    (
-        "a comment without an end",
-        "# b",
-        false,
-        "delimited comment without an end",
-    ),
+    "an empty text", "", false => "end";
+    "a name", "ab(c", false => "plain name ab";
+    "a name at the end", "ab", false => "plain name ab";
+    "a name with a digit", "f1 f", false => "plain name f1";
+    "an underscore", "_f", false => "plain name _f";
+    "a digit", "1f", false => "plain byte 1";
+    "a parenthesis that opens", "(a", false => "plain byte (";
+    "a comma", ",a", false => "plain byte ,";
+    "a blank", " a", false => "plain byte  ";
+    "a newline", "\na", false => "plain byte \n";
+    "a comment", "# b\nc", false => "delimited comment # b\n";
+    "a comment that begins a word", "#b c\n", false => "delimited comment #b c\n";
+    "a comment without an end", "# b", false => "delimited comment without an end";
     // the same with more bytes that may follow
-    ("no bytes so far", "", true, "more"),
-    ("a name at the end", "ab", true, "plain more"),
-    ("a name before a comma", "ab,", true, "plain name ab"),
-    ("a byte at the end", "+", true, "plain byte +"),
-    (
-        "a string that has ended",
-        "`a b'",
-        true,
-        "delimited string a b of 5",
-    ),
-    (
-        "a string without an end so far",
-        "`a b",
-        true,
-        "delimited more",
-    ),
-    (
-        "a comment that has ended",
-        "# b\n",
-        true,
-        "delimited comment # b\n",
-    ),
-    (
-        "a comment without an end so far",
-        "# b",
-        true,
-        "delimited more",
-    ),
-    ("a blank", " ", true, "plain byte  "),
-];
+    "no bytes so far", "", true => "more";
+    "a name at the end", "ab", true => "plain more";
+    "a name before a comma", "ab,", true => "plain name ab";
+    "a byte at the end", "+", true => "plain byte +";
+    "a string that has ended", "`a b'", true => "delimited string a b of 5";
+    "a string without an end so far", "`a b", true => "delimited more";
+    "a comment that has ended", "# b\n", true => "delimited comment # b\n";
+    "a comment without an end so far", "# b", true => "delimited more";
+    "a blank", " ", true => "plain byte  ";
+};
 
 // Adds a part of the text: so many bytes from a place on.
 fn add_part(text: &[u8], at: usize, len: usize, report: &mut Report) {
@@ -148,12 +108,12 @@ fn first_tokens(rt: HostRuntime) {
 }
 
 // A row's name, a text, whether a list follows if it is complete, and if more bytes may follow.
-static LISTS: [(&str, &[u8], &[u8], &[u8]); 4] = [
-    ("an empty text", b"", b"no", b"unknown"),
-    ("a parenthesis", b"(a", b"yes", b"yes"),
-    ("a blank before a parenthesis", b" (", b"no", b"no"),
-    ("a parenthesis that closes", b")", b"no", b"no"),
-];
+static LISTS: [(&str, &[u8], (&[u8], &[u8])); 4] = rows! {
+    "an empty text", b"" => (b"no", b"unknown");
+    "a parenthesis", b"(a" => (b"yes", b"yes");
+    "a blank before a parenthesis", b" (" => (b"no", b"no");
+    "a parenthesis that closes", b")" => (b"no", b"no");
+};
 
 // Reports an answer.
 fn answer_of(alloc: Global, text: &[u8], may_follow: bool) -> Result<Vec<u8>, AllocError> {
@@ -169,7 +129,7 @@ fn answer_of(alloc: Global, text: &[u8], may_follow: bool) -> Result<Vec<u8>, Al
 
 #[test]
 fn lists(rt: HostRuntime) {
-    for &(name, text, want, open) in &LISTS {
+    for &(name, text, (want, open)) in &LISTS {
         shows(&rt, name, want, answer_of(rt.alloc(), text, false));
         shows(&rt, name, open, answer_of(rt.alloc(), text, true));
     }

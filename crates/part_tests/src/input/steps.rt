@@ -4,7 +4,7 @@ ghost use Rattle.std.specs.Prelude.{◌≡◌, ◌≤◌, None, IfOk, length};
 ghost use Rattle.m4_input.specs.Pending.{text_of};
 
 use super::looks::describe_look;
-use super::{BLOCKS, describe, describe_fault, push};
+use super::{BLOCKS, describe, describe_fault};
 use crate::given::{Given, delimited, describe_definition, made};
 use crate::report::{Report, repeated};
 use crate::shows::agrees_by;
@@ -110,8 +110,8 @@ pub const STARS: Pair = ("(*", "*)");
 /// Quotes or comments that are disabled.
 pub const NONE: Pair = ("", "");
 
-// More tokens than any row has.
-const MOST: usize = 20;
+// More tokens than any row has, and more blocks.
+const MOST: usize = 100;
 
 // More bytes than are in hand where a row looks at them.
 const IN_HAND: usize = 64;
@@ -124,26 +124,11 @@ fn add_line(line: Result<&'static [u8], InputFault>, report: &mut Report) {
     }
 }
 
-/// Asks the reader once, if it has not ended.
-pub fn ask(input: &mut Input, reader: &mut MemSource<'_>) -> Result<&'static [u8], InputFault> {
-    if let Some(fault) = input.fault() {
-        return Err(fault);
-    }
-    if !input.may_follow() {
-        return Ok(b"closed\n");
-    }
-    Ok(if input.more(reader)? {
-        b"more\n"
-    } else {
-        b"end\n"
-    })
-}
-
-// Asks the reader, and again while the first token is open, if the reader has not ended.
-fn ask_token(
+/// Asks the reader once, if it has not ended, and with delimiters again while the first token is open.
+pub fn ask(
     input: &mut Input,
     reader: &mut MemSource<'_>,
-    delims: &Delims<'_>,
+    delims: Option<&Delims<'_>>,
 ) -> Result<&'static [u8], InputFault> {
     if let Some(fault) = input.fault() {
         return Err(fault);
@@ -151,8 +136,15 @@ fn ask_token(
     if !input.may_follow() {
         return Ok(b"closed\n");
     }
-    input.more_of_token(reader, delims)?;
-    Ok(b"asked\n")
+    if let Some(delims) = delims {
+        input.more_of_token(reader, delims)?;
+        return Ok(b"asked\n");
+    }
+    Ok(if input.more(reader)? {
+        b"more\n"
+    } else {
+        b"end\n"
+    })
 }
 
 // Adds the first token if the bytes in hand decide it, or the fault of an earlier step. Returns whether it did.
@@ -177,94 +169,21 @@ fn add_decided(alloc: Global, input: &Input, delims: &Delims<'_>, report: &mut R
     true
 }
 
-// Adds what the bytes in hand decide of the first token.
-fn add_look(alloc: Global, input: &Input, delims: &Delims<'_>, report: &mut Report) {
-    if !add_decided(alloc, input, delims, report) {
-        report.add(b"needs more\n");
-    }
-}
-
-// Asks until the first token is decided, at most a hundred times, and adds it.
-fn decide(
-    alloc: Global,
-    input: &mut Input,
-    reader: &mut MemSource<'_>,
-    delims: &Delims<'_>,
-    report: &mut Report,
-) {
-    for _ in 0..100 {
-        if add_decided(alloc, input, delims, report) {
-            break;
-        }
-        let _answer = ask(input, reader);
-    }
-}
-
-// Adds the next token, and returns whether it is the end.
-fn add_next(
-    input: &mut Input,
-    reader: &mut MemSource<'_>,
-    delims: &Delims<'_>,
-    report: &mut Report,
-) -> bool {
-    let token = input.next(reader, delims);
-    let ends = matches!(&token, Ok(Token::End));
+// Adds a token, or its length if it is to be a name, or the fault. Returns whether it is the end.
+fn add_token(token: Result<Token, InputFault>, measured: bool, report: &mut Report) -> bool {
     match token {
+        Ok(Token::Name(name)) if measured => {
+            report.counted(b"a name of ", name.as_slice().len());
+            report.add(b"\n");
+        }
+        Ok(Token::End) => {
+            describe(&Token::End, report);
+            return true;
+        }
         Ok(token) => describe(&token, report),
         Err(fault) => describe_fault(fault, report),
     }
-    ends
-}
-
-// Adds the length of the next token, if it is a name.
-fn add_len(
-    input: &mut Input,
-    reader: &mut MemSource<'_>,
-    delims: &Delims<'_>,
-    report: &mut Report,
-) {
-    let token = input.next(reader, delims);
-    match &token {
-        Ok(Token::Name(name)) => report.counted(b"a name of ", name.as_slice().len()),
-        _ => report.add(b"no name"),
-    }
-    report.add(b"\n");
-}
-
-// Adds whether a list follows.
-fn add_paren(
-    input: &mut Input,
-    reader: &mut MemSource<'_>,
-    delims: &Delims<'_>,
-    report: &mut Report,
-) {
-    match input.sees_paren(reader, delims) {
-        Ok(true) => report.add(b"list\n"),
-        Ok(false) => report.add(b"no list\n"),
-        Err(fault) => describe_fault(fault, report),
-    }
-}
-
-// Skips the rest of a line, and adds that it was skipped.
-fn skip_line(input: &mut Input, reader: &mut MemSource<'_>, report: &mut Report) {
-    match input.skip_line(reader) {
-        Ok(()) => report.add(b"skipped\n"),
-        Err(fault) => describe_fault(fault, report),
-    }
-}
-
-// Adds the tokens up to the end.
-fn add_rest(
-    input: &mut Input,
-    reader: &mut MemSource<'_>,
-    delims: &Delims<'_>,
-    report: &mut Report,
-) {
-    for _ in 0..MOST {
-        if add_next(input, reader, delims, report) {
-            break;
-        }
-    }
+    false
 }
 
 /// Returns the bytes in hand that are contiguous: all of them, if no text is on the stack.
@@ -281,19 +200,20 @@ pub fn in_hand(alloc: Global, input: &Input) -> Result<Vec<u8>, AllocError>
 // How many texts are on the stack at most.
 const TEXTS: usize = 8;
 
-// Removes all bytes in hand, text by text, and returns them.
-fn take_all(alloc: Global, input: &mut Input) -> Result<Vec<u8>, AllocError> {
-    let mut all = Vec::new(alloc);
+// Removes so many bytes in hand, or all if there are fewer, text by text, and returns them.
+fn take(alloc: Global, input: &mut Input, n: usize) -> Result<Vec<u8>, AllocError> {
+    let mut taken = Vec::new(alloc);
     for _ in 0..TEXTS {
         let front = in_hand(alloc, input)?;
-        all.extend_from_slice(&front)?;
-        input.consume(front.len(), false);
+        let len = front.len().min(n.saturating_sub(taken.len()));
+        taken.extend_from_slice(front.split_at(len).0)?;
+        input.consume(len, false);
     }
-    Ok(all)
+    Ok(taken)
 }
 
-// Adds some bytes, if there was memory for them.
-fn describe_bytes(bytes: Result<Vec<u8>, AllocError>, report: &mut Report) {
+/// Adds some bytes, if there was memory for them.
+pub fn describe_bytes(bytes: Result<Vec<u8>, AllocError>, report: &mut Report) {
     match bytes {
         Ok(bytes) => {
             report.pair(b"[", &bytes);
@@ -316,35 +236,10 @@ fn describe_front(alloc: Global, input: &Input, looked: usize, report: &mut Repo
     }
 }
 
-/// Adds the bytes in hand that are contiguous.
-pub fn describe_hand(alloc: Global, input: &Input, report: &mut Report) {
-    describe_bytes(in_hand(alloc, input), report);
-}
-
-/// Adds the line.
-pub fn describe_line(input: &Input, report: &mut Report) {
-    report.counted(b"line ", input.line() as usize);
+/// Adds a number after its name.
+pub fn describe_count(name: &[u8], count: usize, report: &mut Report) {
+    report.counted(name, count);
     report.add(b"\n");
-}
-
-// Adds the file's name.
-fn describe_name(input: &Input, report: &mut Report) {
-    report.pair(input.name(), b"\n");
-}
-
-// Adds how many bytes the reader returned.
-fn describe_taken(reader: &MemSource<'_>, report: &mut Report) {
-    report.counted(b"taken ", reader.taken());
-    report.add(b"\n");
-}
-
-// Adds whether all of a line was skipped.
-fn describe_skip(all: bool, report: &mut Report) {
-    report.add(if all {
-        b"all of the line\n"
-    } else {
-        b"part of the line\n"
-    });
 }
 
 // Removes the definition before the text, and adds it.
@@ -356,17 +251,6 @@ fn take_definition(input: &mut Input, report: &mut Report) {
     report.add(b"\n");
 }
 
-// Removes so many bytes, or all if there are fewer, text by text.
-fn take_front(alloc: Global, input: &mut Input, n: usize) -> Result<(), AllocError> {
-    let mut left = n;
-    for _ in 0..TEXTS {
-        let len = in_hand(alloc, input)?.len().min(left);
-        input.consume(len, false);
-        left = left.saturating_sub(len);
-    }
-    Ok(())
-}
-
 // Removes a definition, where there should be none.
 fn take_none(input: &mut Input, report: &mut Report)
     ensures { input.new.pending.definition ≡ None }
@@ -376,65 +260,66 @@ fn take_none(input: &mut Input, report: &mut Report)
     }
 }
 
-// Pushes a text.
-fn put(alloc: Global, input: &mut Input, text: &[u8], report: &mut Report) {
+// Returns a text to push.
+fn text(alloc: Global, bytes: &[u8]) -> Result<Pushed, AllocError> {
+    Ok(Pushed::Text(Bytes::from_slice(alloc, bytes)?))
+}
+
+// Returns what a step pushes, if it pushes something.
+fn pushed_by(alloc: Global, step: Step) -> Result<Option<Pushed>, AllocError> {
+    Ok(match step {
+        Step::Push(bytes) => Some(text(alloc, bytes.as_bytes())?),
+        Step::PushMany(count) => Some(text(alloc, &repeated(alloc, b'x', count)?)?),
+        Step::PushDefinition(given) => Some(Pushed::Definition(made(alloc, given)?)),
+        _ => None,
+    })
+}
+
+// Makes a step that pushes something, where no definition is.
+fn push(alloc: Global, input: &mut Input, step: Step, report: &mut Report) {
     take_none(input, report);
-    if push(alloc, input, text).is_err() {
-        report.refuse();
+    match pushed_by(alloc, step) {
+        Ok(Some(pushed)) => {
+            if input.push_front(pushed).is_err() {
+                report.refuse();
+            }
+        }
+        Ok(None) => report.add(b"no step\n"),
+        Err(AllocError) => report.refuse(),
     }
 }
 
 // Copies a text to before the bytes in hand.
-fn copy_before(input: &mut Input, text: &[u8], report: &mut Report) {
+fn put_before(input: &mut Input, text: &[u8], report: &mut Report) {
     take_none(input, report);
-    if input.put_before(text) {
-        report.add(b"put\n");
+    report.add(if input.put_before(text) {
+        b"put\n"
     } else {
-        report.add(b"left\n");
-    }
-}
-
-// Pushes so many letters.
-fn put_many(alloc: Global, input: &mut Input, count: usize, report: &mut Report) {
-    match repeated(alloc, b'x', count) {
-        Ok(text) => put(alloc, input, &text, report),
-        Err(AllocError) => report.refuse(),
-    }
-}
-
-// Pushes a definition.
-fn put_definition(alloc: Global, input: &mut Input, given: Given, report: &mut Report) {
-    take_none(input, report);
-    match made(alloc, given) {
-        Ok(definition) => {
-            if input.push_front(Pushed::Definition(definition)).is_err() {
-                report.refuse();
-            }
-        }
-        Err(AllocError) => report.refuse(),
-    }
+        b"left\n"
+    });
 }
 
 // Makes a step for which the bytes in hand are enough, and adds its result.
 fn answer_in_hand(alloc: Global, input: &mut Input, step: Step, report: &mut Report) {
     match step {
-        Step::Skip => describe_skip(input.skip_in_hand(), report),
+        Step::Skip => report.add(if input.skip_in_hand() {
+            b"all of the line\n"
+        } else {
+            b"part of the line\n"
+        }),
         Step::TakeDefinition => take_definition(input, report),
         Step::Take(n) => {
-            if take_front(alloc, input, n).is_err() {
+            if take(alloc, input, n).is_err() {
                 report.refuse();
             }
         }
-        Step::Push(text) => put(alloc, input, text.as_bytes(), report),
-        Step::PutBefore(text) => copy_before(input, text.as_bytes(), report),
-        Step::PushMany(count) => put_many(alloc, input, count, report),
-        Step::PushDefinition(given) => put_definition(alloc, input, given, report),
-        Step::TakeAll => describe_bytes(take_all(alloc, input), report),
+        Step::TakeAll => describe_bytes(take(alloc, input, usize::MAX), report),
+        Step::PutBefore(text) => put_before(input, text.as_bytes(), report),
         Step::Front(looked) => describe_front(alloc, input, looked, report),
-        Step::Hand => describe_hand(alloc, input, report),
-        Step::Line => describe_line(input, report),
-        Step::Name => describe_name(input, report),
-        _ => report.add(b"a step that asks the reader\n"),
+        Step::Hand => describe_bytes(in_hand(alloc, input), report),
+        Step::Line => describe_count(b"line ", input.line() as usize, report),
+        Step::Name => report.pair(input.name(), b"\n"),
+        _ => push(alloc, input, step, report),
     }
 }
 
@@ -448,18 +333,43 @@ fn answer(
     report: &mut Report,
 ) {
     match step {
-        Step::More => add_line(ask(input, reader), report),
-        Step::Token => add_line(ask_token(input, reader, delims), report),
-        Step::Look => add_look(alloc, input, delims, report),
-        Step::Decide => decide(alloc, input, reader, delims, report),
-        Step::Next => {
-            let _ends = add_next(input, reader, delims, report);
+        Step::More => add_line(ask(input, reader, None), report),
+        Step::Token => add_line(ask(input, reader, Some(delims)), report),
+        Step::Look => {
+            if !add_decided(alloc, input, delims, report) {
+                report.add(b"needs more\n");
+            }
         }
-        Step::NextLen => add_len(input, reader, delims, report),
-        Step::Rest => add_rest(input, reader, delims, report),
-        Step::SeesParen => add_paren(input, reader, delims, report),
-        Step::SkipLine => skip_line(input, reader, report),
-        Step::Taken => describe_taken(reader, report),
+        Step::Decide => {
+            for _ in 0..MOST {
+                if add_decided(alloc, input, delims, report) {
+                    break;
+                }
+                let _answer = ask(input, reader, None);
+            }
+        }
+        Step::Next | Step::NextLen | Step::Rest => {
+            let most = if matches!(step, Step::Rest) { MOST } else { 1 };
+            for _ in 0..most {
+                if add_token(
+                    input.next(reader, delims),
+                    matches!(step, Step::NextLen),
+                    report,
+                ) {
+                    break;
+                }
+            }
+        }
+        Step::SeesParen => match input.sees_paren(reader, delims) {
+            Ok(true) => report.add(b"list\n"),
+            Ok(false) => report.add(b"no list\n"),
+            Err(fault) => describe_fault(fault, report),
+        },
+        Step::SkipLine => match input.skip_line(reader) {
+            Ok(()) => report.add(b"skipped\n"),
+            Err(fault) => describe_fault(fault, report),
+        },
+        Step::Taken => describe_count(b"taken ", reader.taken(), report),
         _ => answer_in_hand(alloc, input, step, report),
     }
 }

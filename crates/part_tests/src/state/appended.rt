@@ -10,31 +10,16 @@ use std::alloc::{AllocError, Global};
 // A row's name, a text, how many of its bytes are appended, and what is then after `<`.
 type Row = (&'static str, &'static str, usize, &'static str);
 
-static ROWS: [Row; 8] = [
-    ("nothing of nothing", "", 0, "<"),
-    ("one byte", "a", 1, "<a"),
-    ("two bytes of three", "abc", 2, "<ab"),
-    ("no byte of sixteen", "abcdefghijklmnop", 0, "<"),
-    ("some of sixteen", "abcdefghijklmnop", 3, "<abc"),
-    (
-        "all of sixteen",
-        "abcdefghijklmnop",
-        16,
-        "<abcdefghijklmnop",
-    ),
-    (
-        "seventeen of twenty",
-        "abcdefghijklmnopqrst",
-        17,
-        "<abcdefghijklmnopq",
-    ),
-    (
-        "fifteen of fifteen",
-        "abcdefghijklmno",
-        15,
-        "<abcdefghijklmno",
-    ),
-];
+static ROWS: [Row; 8] = rows! {
+    "nothing of nothing", "", 0 => "<";
+    "one byte", "a", 1 => "<a";
+    "two bytes of three", "abc", 2 => "<ab";
+    "no byte of sixteen", "abcdefghijklmnop", 0 => "<";
+    "some of sixteen", "abcdefghijklmnop", 3 => "<abc";
+    "all of sixteen", "abcdefghijklmnop", 16 => "<abcdefghijklmnop";
+    "seventeen of twenty", "abcdefghijklmnopqrst", 17 => "<abcdefghijklmnopq";
+    "fifteen of fifteen", "abcdefghijklmno", 15 => "<abcdefghijklmno";
+};
 
 // Appends the first bytes of a text.
 fn with_front(alloc: Global, text: &[u8], len: usize) -> Result<Vec<u8>, AllocError> {
@@ -148,51 +133,16 @@ type PutRow = (
 // A text of one byte more than is held in place.
 const LONG: &str = "abcdefghijklmnopqrstuvwxyz01234";
 
-static PUTS: [PutRow; 8] = [
-    ("one byte", "abcd", Way::Copied, 2, "x", "put axcd"),
-    (
-        "from the first on",
-        "abcd",
-        Way::Copied,
-        3,
-        "xyz",
-        "put xyzd",
-    ),
-    ("at the end", "abcd", Way::Shared, 4, "xy", "put abxy"),
-    (
-        "more than are there",
-        "abcd",
-        Way::Copied,
-        2,
-        "xyz",
-        "left abcd",
-    ),
-    ("no byte", "abcd", Way::Copied, 0, "", "put abcd"),
-    (
-        "in a buffer of the text's own",
-        LONG,
-        Way::Taken,
-        31,
-        "xyz",
-        "put abcdefghijklmnopqrstuvwxyz01xyz",
-    ),
-    (
-        "in a buffer, more than are there",
-        LONG,
-        Way::Moved,
-        1,
-        "xy",
-        "left abcdefghijklmnopqrstuvwxyz01234",
-    ),
-    (
-        "in a slice that others may share",
-        LONG,
-        Way::Shared,
-        31,
-        "xyz",
-        "left abcdefghijklmnopqrstuvwxyz01234",
-    ),
-];
+static PUTS: [PutRow; 8] = rows! {
+    "one byte", "abcd", Way::Copied, 2, "x" => "put axcd";
+    "from the first on", "abcd", Way::Copied, 3, "xyz" => "put xyzd";
+    "at the end", "abcd", Way::Shared, 4, "xy" => "put abxy";
+    "more than are there", "abcd", Way::Copied, 2, "xyz" => "left abcd";
+    "no byte", "abcd", Way::Copied, 0, "" => "put abcd";
+    "in a buffer of the text's own", LONG, Way::Taken, 31, "xyz" => "put abcdefghijklmnopqrstuvwxyz01xyz";
+    "in a buffer, more than are there", LONG, Way::Moved, 1, "xy" => "left abcdefghijklmnopqrstuvwxyz01234";
+    "in a slice that others may share", LONG, Way::Shared, 31, "xyz" => "left abcdefghijklmnopqrstuvwxyz01234";
+};
 
 // Puts bytes before a place of a text.
 fn put(alloc: Global, row: &PutRow) -> Result<Vec<u8>, AllocError> {

@@ -9,38 +9,38 @@ use std::alloc::{AllocError, Global};
 
 // A name, and the builtin of that name: whether it is recognised only with parameters, whether it
 // accepts definitions as arguments, and the least and the greatest number of arguments.
-static ROWS: [(&str, &str); 30] = [
-    ("define", "define: parameters, definitions, 1 to 2"),
-    ("undefine", "undefine: parameters, 1 or more"),
-    ("pushdef", "pushdef: parameters, definitions, 1 to 2"),
-    ("popdef", "popdef: parameters, 1 or more"),
-    ("defn", "defn: parameters, 1 or more"),
-    ("indir", "indir: parameters, definitions, 1 or more"),
-    ("builtin", "builtin: parameters, definitions, 1 or more"),
-    ("ifdef", "ifdef: parameters, 2 to 3"),
-    ("ifelse", "ifelse: parameters, 0 or more"),
-    ("shift", "shift: parameters, 0 or more"),
-    ("dumpdef", "dumpdef: 0 or more"),
-    ("dnl", "dnl: 0 to 0"),
-    ("changequote", "changequote: 0 to 2"),
-    ("changecom", "changecom: 0 to 2"),
-    ("divert", "divert: 0 to 1"),
-    ("undivert", "undivert: 0 or more"),
-    ("divnum", "divnum: 0 to 0"),
-    ("len", "len: parameters, 1 to 1"),
-    ("index", "index: parameters, 2 to 2"),
-    ("substr", "substr: parameters, 2 to 3"),
-    ("translit", "translit: parameters, 2 to 3"),
-    ("incr", "incr: parameters, 1 to 1"),
-    ("decr", "decr: parameters, 1 to 1"),
-    ("eval", "eval: parameters, 1 to 3"),
-    ("errprint", "errprint: parameters, 0 or more"),
-    ("m4wrap", "m4wrap: parameters, 0 or more"),
-    ("m4exit", "m4exit: 0 to 1"),
-    ("__file__", "__file__: 0 to 0"),
-    ("__line__", "__line__: 0 to 0"),
-    ("format", "none"),
-];
+static ROWS: [(&str, &str); 30] = rows! {
+    "define" => "define: parameters, definitions, 1 to 2";
+    "undefine" => "undefine: parameters, 1 or more";
+    "pushdef" => "pushdef: parameters, definitions, 1 to 2";
+    "popdef" => "popdef: parameters, 1 or more";
+    "defn" => "defn: parameters, 1 or more";
+    "indir" => "indir: parameters, definitions, 1 or more";
+    "builtin" => "builtin: parameters, definitions, 1 or more";
+    "ifdef" => "ifdef: parameters, 2 to 3";
+    "ifelse" => "ifelse: parameters, 0 or more";
+    "shift" => "shift: parameters, 0 or more";
+    "dumpdef" => "dumpdef: 0 or more";
+    "dnl" => "dnl: 0 to 0";
+    "changequote" => "changequote: 0 to 2";
+    "changecom" => "changecom: 0 to 2";
+    "divert" => "divert: 0 to 1";
+    "undivert" => "undivert: 0 or more";
+    "divnum" => "divnum: 0 to 0";
+    "len" => "len: parameters, 1 to 1";
+    "index" => "index: parameters, 2 to 2";
+    "substr" => "substr: parameters, 2 to 3";
+    "translit" => "translit: parameters, 2 to 3";
+    "incr" => "incr: parameters, 1 to 1";
+    "decr" => "decr: parameters, 1 to 1";
+    "eval" => "eval: parameters, 1 to 3";
+    "errprint" => "errprint: parameters, 0 or more";
+    "m4wrap" => "m4wrap: parameters, 0 or more";
+    "m4exit" => "m4exit: 0 to 1";
+    "__file__" => "__file__: 0 to 0";
+    "__line__" => "__line__: 0 to 0";
+    "format" => "none";
+};
 
 // Reports the builtin of a name.
 fn report_of(alloc: Global, name: &[u8]) -> Result<Vec<u8>, AllocError> {
@@ -54,8 +54,7 @@ fn report_of(alloc: Global, name: &[u8]) -> Result<Vec<u8>, AllocError> {
 
 // Adds the columns of a builtin.
 fn describe(builtin: Builtin, report: &mut Report) {
-    report.add(builtin.name());
-    report.add(b": ");
+    report.pair(builtin.name(), b": ");
     if builtin.needs_args() {
         report.add(b"parameters, ");
     }
@@ -95,10 +94,6 @@ fn copy_of(alloc: Global, bytes: &[u8]) -> Result<Vec<u8>, AllocError> {
 
 #[test]
 fn a_byte_string_is_copied(rt: HostRuntime) {
-    shows(
-        &rt,
-        "a byte 0 at its end",
-        b"a\x00",
-        copy_of(rt.alloc(), b"a\x00"),
-    );
+    let got = copy_of(rt.alloc(), b"a\x00");
+    shows(&rt, "a byte 0 at its end", b"a\x00", got);
 }

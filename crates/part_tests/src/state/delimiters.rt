@@ -16,30 +16,14 @@ type Row = (
     &'static str,
 );
 
-static ROWS: [Row; 6] = [
-    ("an empty state", &[], "quotes ` '\ncomments # \n"),
-    (
-        "both strings",
-        &[("[[", "]]")],
-        "quotes [[ ]]\ncomments [[ ]]",
-    ),
-    (
-        "no end for the quotes",
-        &[("[[", "]]"), ("<", "")],
-        "quotes < '\ncomments < \n",
-    ),
-    (
-        "no end for the comments",
-        &[("//", "")],
-        "quotes // '\ncomments // \n",
-    ),
-    ("no begin", &[("<", ""), ("", "x")], "quotes  \ncomments  "),
-    (
-        "a begin again",
-        &[("", ""), ("[", "]")],
-        "quotes [ ]\ncomments [ ]",
-    ),
-];
+static ROWS: [Row; 6] = rows! {
+    "an empty state", &[] => "quotes ` '\ncomments # \n";
+    "both strings", &[("[[", "]]")] => "quotes [[ ]]\ncomments [[ ]]";
+    "no end for the quotes", &[("[[", "]]"), ("<", "")] => "quotes < '\ncomments < \n";
+    "no end for the comments", &[("//", "")] => "quotes // '\ncomments // \n";
+    "no begin", &[("<", ""), ("", "x")] => "quotes  \ncomments  ";
+    "a begin again", &[("", ""), ("[", "]")] => "quotes [ ]\ncomments [ ]";
+};
 
 // Sets the quotes and the comments to the same strings.
 fn set(alloc: Global, state: &mut State, begin: &str, end: &str) -> Result<(), StateFault> {
@@ -51,10 +35,8 @@ fn set(alloc: Global, state: &mut State, begin: &str, end: &str) -> Result<(), S
 
 // Adds a pair with its name.
 fn describe(name: &[u8], pair: (&[u8], &[u8]), report: &mut Report) {
-    report.add(name);
-    report.add(b" ");
-    report.add(pair.0);
-    report.add(b" ");
+    report.pair(name, b" ");
+    report.pair(pair.0, b" ");
     report.add(pair.1);
 }
 

@@ -7,31 +7,16 @@ use std::alloc::{AllocError, Global};
 // A row's name, a text, the place from which it is looked at, and the bytes that come before a dollar.
 type Row = (&'static str, &'static [u8], usize, &'static [u8]);
 
-static ROWS: [Row; 8] = [
-    ("no dollar", b"abcdefghijklmnop", 0, b"abcdefghijklmnop"),
-    ("a dollar first", b"$bcdefghijklmnop", 0, b""),
-    ("a dollar last", b"abcdefghijklmno$", 0, b"abcdefghijklmno"),
-    ("two dollars", b"abc$efg$ijklmnop", 0, b"abc"),
-    (
-        "a dollar before the place",
-        b"$bcdefghijklmnopq",
-        1,
-        b"bcdefghijklmnopq",
-    ),
-    ("a dollar at the place", b"abc$efghijklmnopqrs", 3, b""),
-    (
-        "a dollar after sixteen",
-        b"abcdefghijklmnop$",
-        0,
-        b"abcdefghijklmnop",
-    ),
-    (
-        "bytes near a dollar",
-        b"#%#%#%#%\xa4\x00\xff$#%#%",
-        0,
-        b"#%#%#%#%\xa4\x00\xff",
-    ),
-];
+static ROWS: [Row; 8] = rows! {
+    "no dollar", b"abcdefghijklmnop", 0 => b"abcdefghijklmnop";
+    "a dollar first", b"$bcdefghijklmnop", 0 => b"";
+    "a dollar last", b"abcdefghijklmno$", 0 => b"abcdefghijklmno";
+    "two dollars", b"abc$efg$ijklmnop", 0 => b"abc";
+    "a dollar before the place", b"$bcdefghijklmnopq", 1 => b"bcdefghijklmnopq";
+    "a dollar at the place", b"abc$efghijklmnopqrs", 3 => b"";
+    "a dollar after sixteen", b"abcdefghijklmnop$", 0 => b"abcdefghijklmnop";
+    "bytes near a dollar", b"#%#%#%#%\xa4\x00\xff$#%#%", 0 => b"#%#%#%#%\xa4\x00\xff";
+};
 
 // Returns the bytes before the next dollar.
 fn before_dollar(alloc: Global, text: &[u8], at: usize) -> Result<Vec<u8>, AllocError> {

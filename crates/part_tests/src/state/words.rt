@@ -7,52 +7,27 @@ use std::alloc::{AllocError, Global};
 // A row's name, two byte strings, and what is said of them.
 type Row = (&'static str, &'static [u8], &'static [u8], &'static [u8]);
 
-static FEW: [Row; 7] = [
-    ("nothing", b"", b"", b"equal"),
-    ("nothing and something", b"", b"a", b"other"),
-    ("one byte", b"\x00", b"\x00", b"equal"),
-    ("one other byte", b"\x00", b"\xff", b"other"),
-    ("seven bytes", b"abcdefg", b"abcdefg", b"equal"),
-    ("another last of seven", b"abcdefg", b"abcdefh", b"other"),
-    ("a beginning", b"abcdefg", b"abcdef", b"other"),
-];
+static FEW: [Row; 7] = rows! {
+    "nothing", b"", b"" => b"equal";
+    "nothing and something", b"", b"a" => b"other";
+    "one byte", b"\x00", b"\x00" => b"equal";
+    "one other byte", b"\x00", b"\xff" => b"other";
+    "seven bytes", b"abcdefg", b"abcdefg" => b"equal";
+    "another last of seven", b"abcdefg", b"abcdefh" => b"other";
+    "a beginning", b"abcdefg", b"abcdef" => b"other";
+};
 
-static WORDS: [Row; 9] = [
-    ("a word", b"abcdefgh", b"abcdefgh", b"equal"),
-    (
-        "another first of a word",
-        b"abcdefgh",
-        b"xbcdefgh",
-        b"other",
-    ),
-    ("another last of a word", b"abcdefgh", b"abcdefgx", b"other"),
-    ("nine bytes", b"abcdefghi", b"abcdefghi", b"equal"),
-    ("another last of nine", b"abcdefghi", b"abcdefghx", b"other"),
-    (
-        "two words",
-        b"abcdefghijklmnop",
-        b"abcdefghijklmnop",
-        b"equal",
-    ),
-    (
-        "another in the first of two",
-        b"abcdefghijklmnop",
-        b"abcdefgxijklmnop",
-        b"other",
-    ),
-    (
-        "another in the last of three",
-        b"abcdefghijklmnopqrs",
-        b"abcdefghijklmnopqxs",
-        b"other",
-    ),
-    (
-        "a longer one",
-        b"abcdefghijklmnop",
-        b"abcdefghijklmnopq",
-        b"other",
-    ),
-];
+static WORDS: [Row; 9] = rows! {
+    "a word", b"abcdefgh", b"abcdefgh" => b"equal";
+    "another first of a word", b"abcdefgh", b"xbcdefgh" => b"other";
+    "another last of a word", b"abcdefgh", b"abcdefgx" => b"other";
+    "nine bytes", b"abcdefghi", b"abcdefghi" => b"equal";
+    "another last of nine", b"abcdefghi", b"abcdefghx" => b"other";
+    "two words", b"abcdefghijklmnop", b"abcdefghijklmnop" => b"equal";
+    "another in the first of two", b"abcdefghijklmnop", b"abcdefgxijklmnop" => b"other";
+    "another in the last of three", b"abcdefghijklmnopqrs", b"abcdefghijklmnopqxs" => b"other";
+    "a longer one", b"abcdefghijklmnop", b"abcdefghijklmnopq" => b"other";
+};
 
 // Returns what is said of two byte strings.
 fn said(alloc: Global, a: &[u8], b: &[u8]) -> Result<Vec<u8>, AllocError> {
