@@ -11,6 +11,7 @@ use m4_frozen::fault::{FrozenFault, FrozenKind};
 use part_tests::report::Report;
 use std::alloc::{AllocError, Global};
 use std::process::Abort;
+use std::test::Fail;
 
 // Frozen files and files, and the text that is frozen again.
 static LOADED: [Row; 12] = rows! {
@@ -85,26 +86,20 @@ fn frozen_files_are_loaded(rt: HostRuntime) {
 }
 
 #[test]
-fn refused_frozen_files_leave_nothing_and_read_no_source(rt: HostRuntime) {
+fn refused_frozen_files_leave_nothing_and_read_no_source(rt: HostRuntime) -> Result<(), Fail> {
     compare(&rt, &REFUSED);
     for row in &REFUSED {
         for block in BLOCKS {
-            match seen_of(rt.alloc(), row, block) {
-                Ok(seen) => assert_eq!(rt;
-                    seen.taken,
-                    0,
-                    "{}, read {block} bytes at a time",
-                    row.name
-                ),
-                Err(AllocError) => panic!(rt; "out of memory"),
-            }
+            let seen = seen_of(rt.alloc(), row, block)?;
+            assert_eq!(rt; seen.taken, 0, "{}, read {block} bytes at a time", row.name);
         }
     }
+    Ok(())
 }
 
-/// Sources, which runs read one after another, and what is written while each is read. All is read and no text saved,
-/// but for the end of the last run. Each run but the last freezes, and the next one starts from its frozen text.
-/// If the first source saves text, which is not carried, then one run over all has another output.
+// Sources, which runs read one after another, and what is written while each is read. Each run but the last freezes and
+// reads everything; the next one starts from its frozen text, and the last has the end given. If the first source saves
+// text, which is not carried, then one run over all has another output.
 struct Chain {
     name: &'static str,
     files: &'static [Given],
@@ -114,7 +109,7 @@ struct Chain {
     joint: Option<&'static str>,
 }
 
-/// Runs that read everything and write no message.
+// Runs that read everything and write no message.
 const NO_MESSAGE: Chain = Chain {
     name: "",
     files: &[],
@@ -292,13 +287,8 @@ fn compare_chains(rt: &(impl Abort + Alloc<A = Global>), chains: &[Chain], ways:
         for ends in ways {
             for block in BLOCKS {
                 let want = expected_runs(rt.alloc(), chain, ends);
-                agrees_by(
-                    rt,
-                    chain.name,
-                    block,
-                    want,
-                    seen_runs(rt.alloc(), chain, ends, block),
-                );
+                let got = seen_runs(rt.alloc(), chain, ends, block);
+                agrees_by(rt, chain.name, block, want, got);
             }
         }
     }

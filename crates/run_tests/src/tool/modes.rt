@@ -39,6 +39,9 @@ pub const CANON: Row = Row {
     messages: "",
 };
 
+// A canonical text of a file with a fault.
+const FAULTY: Row = Row { status: 1, ..CANON };
+
 // Expands to rows: of each its mode, its file, its output, and then each other field that it has.
 macro_rules! modes {
     ($($mode:ident $file:literal => $output:expr $(, $field:ident: $value:expr)*;)*) => {
@@ -64,7 +67,7 @@ static CANONICAL: [Row; 7] = modes! {
     Canon b"V1\nD-2147483648,0\n\n" => canonical!("D-2147483648,0\n\n");
 };
 
-// Files that are read, but not canonical, or whose faults have another place than those below.
+// Faults at other places than those of `KINDS`, or before a reader fails, and files that would issue text.
 static REFUSED: [Row; 7] = modes! {
     Canon b"# c\n\nV2\n" => "", status: 63, messages: "m4: F: F2 Newer at byte 6\n";
     Canon b"V1\nD0,3\nhi\n\nX\n" => "", status: 1, messages: "m4: F: F5 UnknownDirective at byte 12\n";
@@ -89,33 +92,26 @@ static SHORT: [Row; 1] = modes! {
     Canon b"V2\n" => "", space: 6, status: 63, messages: "m4: F:";
 };
 
-// Each kind of fault, of the files of docs/FROZEN_FILE.md. The line has the number and the name that the kind displays.
-static KINDS: [Row; 10] = modes! {
-    Canon b"" => "", status: 1, messages: "m4: F: F1 NoVersion at byte 0\n";
-    Canon b"V2x" => "", status: 63, messages: "m4: F: F2 Newer at byte 1\n";
-    Canon b"V0" => "", status: 1, messages: "m4: F: F3 VersionZero at byte 1\n";
-    Canon b"V1\nV1\n" => "", status: 1, messages: "m4: F: F4 SecondVersion at byte 3\n";
-    Canon b"V1\nX" => "", status: 1, messages: "m4: F: F5 UnknownDirective at byte 3\n";
-    Canon b"V1\nT-1,0\n\n" => "", status: 1, messages: "m4: F: F6 DigitExpected at byte 4\n";
-    Canon b"V1\nT1,18446744073709551616\na" => "", status: 1, messages: "m4: F: F7 NumberTooLarge at byte 6\n";
-    Canon b"V1 \n" => "", status: 1, messages: "m4: F: F8 SeparatorExpected at byte 2\n";
-    Canon b"V1" => "", status: 1, messages: "m4: F: F9 PrematureEnd at byte 2\n";
-    Canon b"V1\nT1" => "", fails: true, status: 1, messages: "m4: F: F10 Read\n";
-};
+// Expands to kinds of faults: of each a file with that fault, its line, and then each other field of its row.
+macro_rules! kinds {
+    ($($kind:ident $file:literal => $messages:literal $(, $field:ident: $value:expr)*;)*) => {
+        [$((FrozenKind::$kind, Row { file: $file, messages: $messages, $($field: $value,)* ..FAULTY })),*]
+    };
+}
 
-// The kinds of these faults.
-static SHOWN: [FrozenKind; 10] = [
-    FrozenKind::NoVersion,
-    FrozenKind::Newer,
-    FrozenKind::VersionZero,
-    FrozenKind::SecondVersion,
-    FrozenKind::UnknownDirective,
-    FrozenKind::DigitExpected,
-    FrozenKind::NumberTooLarge,
-    FrozenKind::SeparatorExpected,
-    FrozenKind::PrematureEnd,
-    FrozenKind::Read,
-];
+// The files of docs/FROZEN_FILE.md. The line has the number and the name that the kind displays.
+static KINDS: [(FrozenKind, Row); 10] = kinds! {
+    NoVersion b"" => "m4: F: F1 NoVersion at byte 0\n";
+    Newer b"V2x" => "m4: F: F2 Newer at byte 1\n", status: 63;
+    VersionZero b"V0" => "m4: F: F3 VersionZero at byte 1\n";
+    SecondVersion b"V1\nV1\n" => "m4: F: F4 SecondVersion at byte 3\n";
+    UnknownDirective b"V1\nX" => "m4: F: F5 UnknownDirective at byte 3\n";
+    DigitExpected b"V1\nT-1,0\n\n" => "m4: F: F6 DigitExpected at byte 4\n";
+    NumberTooLarge b"V1\nT1,18446744073709551616\na" => "m4: F: F7 NumberTooLarge at byte 6\n";
+    SeparatorExpected b"V1 \n" => "m4: F: F8 SeparatorExpected at byte 2\n";
+    PrematureEnd b"V1" => "m4: F: F9 PrematureEnd at byte 2\n";
+    Read b"V1\nT1" => "m4: F: F10 Read\n", fails: true;
+};
 
 /// The writers of a mode or of a line, and its status.
 pub struct Left {
@@ -260,8 +256,8 @@ fn check_kind(rt: &(impl Abort + Alloc<A = Global>), kind: FrozenKind, line: &st
 
 #[test]
 fn kinds_have_their_line(rt: HostRuntime) {
-    compare(&rt, &KINDS);
-    for (kind, row) in SHOWN.iter().zip(&KINDS) {
+    for (kind, row) in &KINDS {
+        compare(&rt, &[*row]);
         check_kind(&rt, *kind, row.messages);
     }
     // The line for want of memory is compared where memory is refused.
