@@ -1,12 +1,18 @@
 //! Complete runs over sources in memory, and sessions call by call.
 //! Manual: "Invoking m4", "Command line files", and the chapters on macros and builtins.
 
-/// Expands to rows: of each its name, the text of its one file, and its output; and then each other field that it has.
+/// Expands to the files of a row: a list, or the text of the only one.
+macro_rules! files {
+    ([$($file:expr),*]) => { &[$($file),*] };
+    ($text:expr) => { &[$crate::runs::rows::Given::File($text)] };
+}
+
+/// Expands to rows: of each its name, its files, and its output; and then each other field that it has.
 macro_rules! rows {
-    ($($name:literal, $file:expr => $output:expr $(, $field:ident: $value:expr)*;)*) => {
+    ($($name:literal, $files:tt => $output:expr $(, $field:ident: $value:expr)*;)*) => {
         [$($crate::runs::rows::Row {
             name: $name,
-            files: &[$crate::runs::rows::Given::File($file)],
+            files: files!($files),
             output: $output,
             $($field: $value,)*
             ..$crate::runs::rows::QUIET
@@ -14,7 +20,6 @@ macro_rules! rows {
     };
 }
 
-mod chains;
 mod endings;
 mod files;
 mod freezing;
@@ -22,7 +27,7 @@ pub mod given;
 mod limits;
 mod prefixed;
 mod refused;
-pub mod report;
+mod report;
 mod rows;
 mod scale;
 mod seams;

@@ -1,12 +1,8 @@
-//! The devices and options of a run in a row, and what a run leaves.
+//! The sizes and the options of runs in rows, and what a run leaves.
 
-use m4_engine::ending::Ending;
+use m4_engine::ending::Cause;
 use m4_engine::options::Options;
-use m4_engine::source::Source;
-use m4_state::bytes::Bytes;
-use m4_state::memory::{MemSink, MemSource};
-use std::alloc::{AllocError, Global};
-use std::process::Abort;
+use m4_state::memory::MemSink;
 
 /// How many bytes a reader returns and a writer accepts at a time.
 pub const BLOCKS: [usize; 4] = [1, 2, 3, 4096];
@@ -14,11 +10,11 @@ pub const BLOCKS: [usize; 4] = [1, 2, 3, 4096];
 /// The limits of a run by default: of calls, and of calls that are open.
 pub const USUAL: (u64, u64) = (4294967295, 1024);
 
-/// How many bytes a writer accepts at a time, in rows that have one size.
-pub const AT_MOST: usize = 7;
-
 /// Enough room for what a row writes.
 pub const ROOM: usize = 1024;
+
+/// Such room for the output, the messages and the frozen text.
+pub const AMPLE: (usize, usize, usize) = (ROOM, ROOM, ROOM);
 
 /// Returns the options with these limits: no freezing, no prefix.
 pub fn options(limits: (u64, u64)) -> Options {
@@ -30,53 +26,26 @@ pub fn options(limits: (u64, u64)) -> Options {
     }
 }
 
-/// Returns the options of a run that freezes, with the usual limits.
-pub fn freezing() -> Options {
-    Options {
-        freeze: true,
-        ..options(USUAL)
-    }
-}
+/// The status of a run, its cause, and whether text was saved.
+pub type End = (u8, Cause, bool);
 
-/// Makes a byte string. If an allocation fails, the test ends.
-pub fn bytes(rt: &(impl Abort + Alloc<A = Global>), text: &[u8]) -> Bytes {
-    match Bytes::from_slice(rt.alloc(), text) {
-        Ok(bytes) => bytes,
-        Err(AllocError) => panic!(rt; "out of memory"),
-    }
-}
+/// The end of a run that read everything and saved no text.
+pub const DONE: End = (0, Cause::Done, false);
 
-/// Copies bytes. If an allocation fails, the test ends.
-pub fn copied(rt: &(impl Abort + Alloc<A = Global>), text: &[u8]) -> Vec<u8> {
-    match Vec::from_slice(rt.alloc(), text) {
-        Ok(bytes) => bytes,
-        Err(AllocError) => panic!(rt; "out of memory"),
-    }
-}
+/// The end of a run that a fault ends, with status 1.
+pub const FAILED_READ: End = (1, Cause::Read, false);
 
-/// Makes a writer with this much room, which accepts this many bytes at a time. If an allocation fails,
-/// the test ends.
-pub fn sink(rt: &(impl Abort + Alloc<A = Global>), room: usize, at_most: usize) -> MemSink {
-    match MemSink::new(rt.alloc(), room, at_most.max(1)) {
-        Ok(sink) => sink,
-        Err(AllocError) => panic!(rt; "out of memory"),
-    }
-}
+pub const FAILED_WRITE: End = (1, Cause::Write, false);
 
-/// Returns how many bytes the reader of the first source returned.
-pub fn taken(sources: &[Source<MemSource<'_>>]) -> usize {
-    match sources.first() {
-        Some(Source::Opened { reader, .. }) => reader.taken(),
-        _ => 0,
-    }
-}
-
-/// The outputs of a run, and how it ended.
+/// The outputs of a run, how it ended, whether it read all of the frozen file that it started from, and how many bytes
+/// it read of its first source.
 pub struct Seen {
     pub output: MemSink,
     pub messages: MemSink,
     pub frozen_text: MemSink,
-    pub ending: Ending,
+    pub end: End,
+    pub is_loaded: bool,
+    pub taken: usize,
 }
 
 // Written out so that a caller's proof contains one call, not the drop of each field.
@@ -86,7 +55,9 @@ impl Drop for Seen {
             output: _output,
             messages: _messages,
             frozen_text: _frozen_text,
-            ending: _ending,
+            end: _end,
+            is_loaded: _is_loaded,
+            taken: _taken,
         } = self;
     }
 }

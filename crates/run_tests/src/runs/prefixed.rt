@@ -1,9 +1,6 @@
 //! Runs whose builtins have names with a prefix. Manual: "Invoking m4" (`--prefix-builtins`).
 
-use super::given::freezing;
-use super::rows::Given::File;
-use super::rows::{AMPLE, Row, Start, compare, run_fresh};
-use m4_engine::options::Options;
+use super::rows::{Row, Start, compare};
 
 static ROWS: [Row; 5] = rows! {
     "a builtin under its name with the prefix", "m4_define(`a',`b')a define(`a',`c')\n" =>
@@ -24,16 +21,4 @@ static ROWS: [Row; 5] = rows! {
 #[test]
 fn builtins_with_prefixes(rt: HostRuntime) {
     compare(&rt, &ROWS);
-}
-
-#[test]
-fn prefixes_are_frozen(rt: HostRuntime) {
-    let begins =
-        b"# m4 frozen state\nV1\nT7,0\n__gnu__\nT8,0\n__unix__\nF11,8\nm4___file____file__\n";
-    let options = Options {
-        prefix: true,
-        ..freezing()
-    };
-    let seen = run_fresh(&rt, options, &[File("")], AMPLE, 4096);
-    assert!(rt; seen.frozen_text.written().starts_with(begins));
 }

@@ -6,217 +6,54 @@
 //! `tests/program/refused_growths` refuses each request in turn, and reads how many runs broke off.
 //! Manual: "Fast loading of frozen state".
 
-use super::given::{AT_MOST, ROOM, taken};
+use super::given::Seen;
 use super::rows::Given::File;
-use super::rows::{Given, QUIET, Row, Start, options_of};
-use super::whole_texts::{
-    BEGIN, BUILTIN, CHANGES, DECR_TO_EVAL, END, IFDEF_TO_PUSHDEF, NAMES, SHIFT, SUBSTR_ON,
-    UNDERSCORES,
-};
-use m4_engine::ending::{Cause, Ending};
-use m4_engine::run::run;
-use m4_engine::source::Source;
+use super::rows::{Frozen, Row, Start, bytes_of, frozen_of, run_row};
+use super::whole_texts::{BEGIN, CUT_TEXT, END, GREETING_TEXT, NAMES};
+use m4_engine::ending::Cause;
 use m4_frozen::fault::FrozenKind;
-use m4_state::bytes::Bytes;
-use m4_state::memory::{MemSink, MemSource};
 use std::alloc::Global;
 use std::process::Abort;
 
 /// A run that freezes, and one from its frozen text.
-static SPLITS: [(Row, Row); 4] = [
-    (
-        Row {
-            name: "a greeting",
-            files: &[File("define(`hi',`Hello $1.')dnl\n")],
-            frozen_text: Some(&[
-                BEGIN,
-                UNDERSCORES,
-                BUILTIN,
-                CHANGES,
-                DECR_TO_EVAL,
-                "T2,9\nhiHello $1.\n",
-                IFDEF_TO_PUSHDEF,
-                SHIFT,
-                SUBSTR_ON,
-                END,
-            ]),
-            ..QUIET
-        },
-        Row {
-            files: &[File("hi(`you')\n")],
-            output: "Hello you.\n",
-            ..QUIET
-        },
-    ),
-    (
-        Row {
-            name: "a stack",
-            files: &[File("define(`x',`1')pushdef(`x',`2')dnl\n")],
-            frozen_text: Some(&[BEGIN, NAMES, "T1,1\nx1\nT1,1\nx2\n", END]),
-            ..QUIET
-        },
-        Row {
-            files: &[File("x popdef(`x')x popdef(`x')x\n")],
-            output: "2 1 x\n",
-            ..QUIET
-        },
-    ),
-    (
-        Row {
-            name: "a builtin under another name",
-            files: &[File("define(`cut',defn(`shift'))undefine(`shift')dnl\n")],
-            frozen_text: Some(&[
-                BEGIN,
-                UNDERSCORES,
-                BUILTIN,
-                CHANGES,
-                "F3,5\ncutshift\n",
-                DECR_TO_EVAL,
-                IFDEF_TO_PUSHDEF,
-                SUBSTR_ON,
-                END,
-            ]),
-            ..QUIET
-        },
-        Row {
-            files: &[File("cut(1,2,3) shift(1)\n")],
-            output: "2,3 shift(1)\n",
-            ..QUIET
-        },
-    ),
-    (
-        Row {
-            name: "diversions",
-            files: &[File("divert(2)two\ndivert(1)one\ndivert(2)dnl\n")],
-            frozen_text: Some(&[BEGIN, NAMES, "D1,4\none\n\nD2,4\ntwo\n\n", END]),
-            ..QUIET
-        },
-        Row {
-            files: &[File("more\n")],
-            output: "one\ntwo\nmore\n",
-            ..QUIET
-        },
-    ),
+static SPLITS: [[Row; 2]; 4] = [
+    rows! {
+        "a greeting", "define(`hi',`Hello $1.')dnl\n" => "", frozen_text: Some(GREETING_TEXT);
+        "a greeting that is called", "hi(`you')\n" => "Hello you.\n";
+    },
+    rows! {
+        "a stack", "define(`x',`1')pushdef(`x',`2')dnl\n" => "",
+            frozen_text: Some(&[BEGIN, NAMES, "T1,1\nx1\nT1,1\nx2\n", END]);
+        "a stack that is unwound", "x popdef(`x')x popdef(`x')x\n" => "2 1 x\n";
+    },
+    rows! {
+        "a builtin under another name", "define(`cut',defn(`shift'))undefine(`shift')dnl\n" => "",
+            frozen_text: Some(CUT_TEXT);
+        "a builtin that is called", "cut(1,2,3) shift(1)\n" => "2,3 shift(1)\n";
+    },
+    rows! {
+        "diversions", "divert(2)two\ndivert(1)one\ndivert(2)dnl\n" => "",
+            frozen_text: Some(&[BEGIN, NAMES, "D1,4\none\n\nD2,4\ntwo\n\n", END]);
+        "diversions that are issued", "more\n" => "one\ntwo\nmore\n";
+    },
 ];
 
-static RUNS: [Row; 5] = [
-    Row {
-        name: "a greeting, of two files",
-        files: &[File("define(`hi',`Hello $1.')dnl\n"), File("hi(`you')\n")],
-        output: "Hello you.\n",
-        ..QUIET
-    },
-    Row {
-        name: "a placeholder",
-        start: Start::Frozen("V1\nF6,6\nregexpregexp\n"),
-        files: &[File("regexp(`a',`b')!\n")],
-        output: "!\n",
+static RUNS: [Row; 5] = rows! {
+    "a greeting, of two files", [File("define(`hi',`Hello $1.')dnl\n"), File("hi(`you')\n")] =>
+        "Hello you.\n";
+    "a placeholder", "regexp(`a',`b')!\n" => "!\n", start: Start::Frozen("V1\nF6,6\nregexpregexp\n"),
         messages: "m4:b.m4:1: Warning: builtin `regexp' requested by frozen file is not supported\n",
-        frozen_text: Some(&[BEGIN, "F6,6\nregexpregexp\n", END]),
-        ..QUIET
-    },
-    Row {
-        name: "a state that is frozen again",
+        frozen_text: Some(&[BEGIN, "F6,6\nregexpregexp\n", END]);
+    "a state that is frozen again", "a define(`c',`d$1')a\n" => "b b\n",
         start: Start::Frozen("V1\nF6,6\ndefinedefine\nT1,1\nab\n"),
-        files: &[File("a define(`c',`d$1')a\n")],
-        output: "b b\n",
-        frozen_text: Some(&[BEGIN, "T1,1\nab\nT1,3\ncd$1\nF6,6\ndefinedefine\n", END]),
-        ..QUIET
-    },
-    Row {
-        name: "definitions that are shown",
-        files: &[File("define(`b',`2')define(`a',`1')dumpdef(`b',`a',`dnl',`z')\n")],
-        output: "\n",
-        messages: "m4:a.m4:1: Warning: undefined macro `z'\na:\t`1'\nb:\t`2'\ndnl:\t<dnl>\n",
-        ..QUIET
-    },
-    Row {
-        name: "dollars",
-        files: &[File("define(`g',`[$#|$*|$2$11|$x]')g(a,`b',)\n")],
-        output: "[3|a,b,|b|$x]\n",
-        ..QUIET
-    },
-];
+        frozen_text: Some(&[BEGIN, "T1,1\nab\nT1,3\ncd$1\nF6,6\ndefinedefine\n", END]);
+    "definitions that are shown", "define(`b',`2')define(`a',`1')dumpdef(`b',`a',`dnl',`z')\n" => "\n",
+        messages: "m4:a.m4:1: Warning: undefined macro `z'\na:\t`1'\nb:\t`2'\ndnl:\t<dnl>\n";
+    "dollars", "define(`g',`[$#|$*|$2$11|$x]')g(a,`b',)\n" => "[3|a,b,|b|$x]\n";
+};
 
-/// How many bytes a reader returns at a time, so that a refusal may come before a frozen file is read to its end.
+/// How many bytes a device takes at a time, so that a refusal may come before a frozen file is read to its end.
 const BLOCK: usize = 16;
-
-/// The writers of a run, and how it ended.
-struct Left {
-    output: MemSink,
-    messages: MemSink,
-    frozen_text: MemSink,
-    ending: Ending,
-    /// Whether the frozen file that it started from was read to its end.
-    is_loaded: bool,
-    /// How many bytes of its file it read.
-    taken: usize,
-}
-
-// Written out so that a caller's proof contains one call, not the drop of each field.
-impl Drop for Left {
-    fn drop(self) {
-        let Left {
-            output: _output,
-            messages: _messages,
-            frozen_text: _frozen_text,
-            ending: _ending,
-            is_loaded: _is_loaded,
-            taken: _taken,
-        } = self;
-    }
-}
-
-/// Makes the sources of a run; none if that is refused. The first has this letter.
-fn sources_of(
-    alloc: Global,
-    first: u8,
-    files: &[Given],
-) -> Option<Vec<Source<MemSource<'static>>>> {
-    let mut sources = Vec::new(alloc);
-    let mut letter = first;
-    for one in files {
-        let File(text) = *one else {
-            return None;
-        };
-        let name = Bytes::from_slice(alloc, &[letter, b'.', b'm', b'4']).ok()?;
-        let reader = MemSource::new(text.as_bytes(), BLOCK, false);
-        sources.push(Source::Opened { name, reader }).ok()?;
-        letter = letter.saturating_add(1);
-    }
-    Some(sources)
-}
-
-/// Makes a run, from this frozen text if there is one; none if its devices could not be made.
-fn left_by(alloc: Global, start: Option<&[u8]>, row: &Row) -> Option<Left> {
-    let first = if start.is_some() { b'b' } else { b'a' };
-    let mut sources = sources_of(alloc, first, row.files)?;
-    let mut output = MemSink::new(alloc, ROOM, AT_MOST).ok()?;
-    let mut messages = MemSink::new(alloc, ROOM, AT_MOST).ok()?;
-    let mut frozen_text = MemSink::new(alloc, ROOM, AT_MOST).ok()?;
-    let mut frozen = start.map(|text| MemSource::new(text, BLOCK, false));
-    let ending = run(
-        alloc,
-        options_of(row),
-        &mut frozen,
-        &mut sources,
-        &mut output,
-        &mut messages,
-        &mut frozen_text,
-    );
-    let is_loaded = match (start, &frozen) {
-        (Some(text), Some(reader)) => reader.taken() == text.len(),
-        _ => true,
-    };
-    Some(Left {
-        output,
-        messages,
-        frozen_text,
-        ending,
-        is_loaded,
-        taken: taken(&sources),
-    })
-}
 
 /// Returns whether bytes are the pieces, one after the other.
 fn are_joined(bytes: &[u8], pieces: &[&str]) -> bool {
@@ -231,78 +68,68 @@ fn are_joined(bytes: &[u8], pieces: &[&str]) -> bool {
 }
 
 /// Returns whether a run left all of its row.
-fn is_whole(row: &Row, left: &Left) -> bool {
-    left.ending.status == 0
-        && left.ending.cause == Cause::Done
-        && !left.ending.wrapped
-        && left.output.written() == row.output.as_bytes()
-        && left.messages.written() == row.messages.as_bytes()
-        && are_joined(left.frozen_text.written(), row.frozen_text.unwrap_or(&[]))
+fn is_whole(row: &Row, seen: &Seen) -> bool {
+    let (status, cause, wrapped) = seen.end;
+    status == 0
+        && cause == Cause::Done
+        && !wrapped
+        && seen.output.written() == row.output.as_bytes()
+        && seen.messages.written() == row.messages.as_bytes()
+        && are_joined(seen.frozen_text.written(), row.frozen_text.unwrap_or(&[]))
 }
 
 /// Returns whether a run read and wrote nothing.
-fn did_not_begin(left: &Left) -> bool {
-    left.taken == 0 && left.output.written().is_empty() && left.messages.written().is_empty()
+fn did_not_begin(seen: &Seen) -> bool {
+    seen.taken == 0 && seen.output.written().is_empty() && seen.messages.written().is_empty()
 }
 
-/// Returns whether a run ended by want of memory. Before it has its frozen file, that is the fault of the file.
-fn wanted_memory(is_reloading: bool, left: &Left) -> bool {
-    match left.ending.cause {
-        Cause::OutOfMemory => left.is_loaded,
+/// Returns whether a run broke off by want of memory. Before it has its frozen file, that is the fault of the file.
+fn broke_off(row: &Row, is_reloading: bool, seen: &Seen) -> bool {
+    let (status, cause, _) = seen.end;
+    let wanted_memory = match cause {
+        Cause::OutOfMemory => seen.is_loaded,
         Cause::Frozen(fault) => {
             is_reloading
                 && fault.kind == FrozenKind::OutOfMemory
                 && fault.offset == 0
-                && did_not_begin(left)
+                && did_not_begin(seen)
         }
         _ => false,
-    }
-}
-
-/// Returns whether a run broke off by want of memory.
-fn broke_off(row: &Row, is_reloading: bool, left: &Left) -> bool {
-    left.ending.status == 1
-        && wanted_memory(is_reloading, left)
-        && row.output.as_bytes().starts_with(left.output.written())
-        && row.messages.as_bytes().starts_with(left.messages.written())
-        && left.frozen_text.written().is_empty()
+    };
+    status == 1
+        && wanted_memory
+        && row.output.as_bytes().starts_with(seen.output.written())
+        && row.messages.as_bytes().starts_with(seen.messages.written())
+        && seen.frozen_text.written().is_empty()
 }
 
 /// Makes a run of a row. Returns what it left, if that is all that its row has; counts it if it broke off.
 fn followed(
     rt: &(impl Abort + Alloc<A = Global>),
-    name: &str,
-    start: Option<&[u8]>,
+    start: Frozen<'_>,
     row: &Row,
     broken: &mut u32,
-) -> Option<Left> {
-    let left = left_by(rt.alloc(), start, row)?;
-    if is_whole(row, &left) {
-        return Some(left);
+) -> Option<Seen> {
+    let seen = run_row(rt.alloc(), row, start, row.files, row.room, BLOCK).ok()?;
+    if is_whole(row, &seen) {
+        return Some(seen);
     }
     assert!(rt;
-        broke_off(row, start.is_some(), &left),
-        "{name}: neither its result nor what it leaves where it breaks off"
+        broke_off(row, start.is_some(), &seen),
+        "{}: neither its result nor what it leaves where it breaks off",
+        row.name
     );
     *broken = broken.saturating_add(1);
     None
 }
 
-/// Returns the frozen file that a row starts from.
-fn start_of(row: &Row) -> Option<&'static [u8]> {
-    match row.start {
-        Start::Frozen(text) => Some(text.as_bytes()),
-        _ => None,
-    }
-}
-
 #[test]
 fn runs_that_are_split(rt: HostRuntime) {
     let mut broken = 0u32;
-    for (first, second) in &SPLITS {
-        if let Some(left) = followed(&rt, first.name, None, first, &mut broken) {
-            let start = Some(left.frozen_text.written());
-            let _second = followed(&rt, first.name, start, second, &mut broken);
+    for [first, second] in &SPLITS {
+        if let Some(left) = followed(&rt, None, first, &mut broken) {
+            let start = Some((left.frozen_text.written(), false));
+            let _second = followed(&rt, start, second, &mut broken);
         }
     }
     let _printed = println!(rt; "{broken} broke off");
@@ -312,7 +139,9 @@ fn runs_that_are_split(rt: HostRuntime) {
 fn single_runs(rt: HostRuntime) {
     let mut broken = 0u32;
     for row in &RUNS {
-        let _left = followed(&rt, row.name, start_of(row), row, &mut broken);
+        if let Ok(bytes) = bytes_of(rt.alloc(), row.start, BLOCK) {
+            let _left = followed(&rt, frozen_of(row.start, &bytes), row, &mut broken);
+        }
     }
     let _printed = println!(rt; "{broken} broke off");
 }

@@ -2,30 +2,16 @@
 //!
 //! Each row is run with readers and writers of several sizes, since no result may depend on them.
 
-use super::given::{BLOCKS, ROOM, Seen, USUAL, bytes, copied, freezing, sink};
+use super::given::{AMPLE, BLOCKS, DONE, End, Seen, USUAL};
 use super::report::{expected, printed_seen};
 use super::shows::agrees_by;
-use m4_engine::ending::Cause;
 use m4_engine::options::Options;
 use m4_engine::run::run;
 use m4_engine::source::Source;
-use m4_state::memory::MemSource;
+use m4_state::bytes::Bytes;
+use m4_state::memory::{MemSink, MemSource};
 use std::alloc::{AllocError, Global};
 use std::process::Abort;
-
-/// The status of a run, its cause, and whether text was saved.
-pub type End = (u8, Cause, bool);
-
-/// The end of a run that read everything and saved no text.
-pub const DONE: End = (0, Cause::Done, false);
-
-/// The end of a run that a fault ends, with status 1.
-pub const FAILED_READ: End = (1, Cause::Read, false);
-
-pub const FAILED_WRITE: End = (1, Cause::Write, false);
-
-/// Enough room for what a row writes: the output, the messages and the frozen text.
-pub const AMPLE: (usize, usize, usize) = (ROOM, ROOM, ROOM);
 
 /// A source. The files are a.m4, b.m4 and so on by their place, and b.m4, c.m4 and so on after a frozen file.
 #[derive(Clone, Copy)]
@@ -81,8 +67,14 @@ pub const QUIET: Row = Row {
     frozen_text: None,
 };
 
+/// A run over no file that freezes.
+pub const FREEZING: Row = Row {
+    frozen_text: Some(&[]),
+    ..QUIET
+};
+
 /// Returns the options of a row.
-pub fn options_of(row: &Row) -> Options {
+fn options_of(row: &Row) -> Options {
     Options {
         calls: row.limits.0,
         nesting: row.limits.1,
@@ -91,75 +83,73 @@ pub fn options_of(row: &Row) -> Options {
     }
 }
 
-/// Returns the text of a source.
-fn text_of<'a>(given: Given) -> &'a [u8] {
-    match given {
-        Given::File(text) => text.as_bytes(),
-        Given::Failing(text) => text.as_bytes(),
-        Given::Missing(_) => b"",
-    }
-}
-
-/// Returns whether the reader of a source fails after its text.
-fn is_failing(given: Given) -> bool {
-    match given {
-        Given::Failing(_) => true,
-        Given::File(_) | Given::Missing(_) => false,
-    }
-}
-
 /// Makes a source of this letter, whose reader returns this many bytes at a time.
 fn source<'a>(
-    rt: &(impl Abort + Alloc<A = Global>),
+    alloc: Global,
     letter: u8,
     given: Given,
     block: usize,
-) -> Source<MemSource<'a>> {
-    if let Given::Missing(name) = given {
-        return Source::Unopened {
-            name: bytes(rt, name.as_bytes()),
-        };
-    }
-    Source::Opened {
-        name: bytes(rt, &[letter, b'.', b'm', b'4']),
-        reader: MemSource::new(text_of(given), block.max(1), is_failing(given)),
-    }
+) -> Result<Source<MemSource<'a>>, AllocError> {
+    let (text, fails) = match given {
+        Given::File(text) => (text, false),
+        Given::Failing(text) => (text, true),
+        Given::Missing(name) => {
+            let name = Bytes::from_slice(alloc, name.as_bytes())?;
+            return Ok(Source::Unopened { name });
+        }
+    };
+    Ok(Source::Opened {
+        name: Bytes::from_slice(alloc, &[letter, b'.', b'm', b'4'])?,
+        reader: MemSource::new(text.as_bytes(), block.max(1), fails),
+    })
 }
 
 /// Makes sources, the first of which has this letter.
-pub fn sources_of<'a>(
-    rt: &(impl Abort + Alloc<A = Global>),
+fn sources_of<'a>(
+    alloc: Global,
     first: u8,
     files: &[Given],
     block: usize,
-) -> Vec<Source<MemSource<'a>>> {
-    let mut sources = Vec::new(rt.alloc());
+) -> Result<Vec<Source<MemSource<'a>>>, AllocError> {
+    let mut sources = Vec::new(alloc);
     let mut letter = first;
     for one in files {
-        if sources.push(source(rt, letter, *one, block)).is_err() {
-            panic!(rt; "out of memory");
-        }
+        sources.push(source(alloc, letter, *one, block)?)?;
         letter = letter.saturating_add(1);
     }
-    sources
+    Ok(sources)
 }
 
+/// Returns how many bytes the reader of the first source returned.
+fn taken(sources: &[Source<MemSource<'_>>]) -> usize {
+    match sources.first() {
+        Some(Source::Opened { reader, .. }) => reader.taken(),
+        _ => 0,
+    }
+}
+
+/// A frozen file, and whether its reader fails after it.
+pub type Frozen<'a> = Option<(&'a [u8], bool)>;
+
 /// Runs over sources, with this room for the output, the messages and the frozen text. The readers return, and the
-/// writers accept, this many bytes at a time.
+/// writers accept, this many bytes at a time. The devices are made first.
 pub fn run_over<'a>(
-    rt: &(impl Abort + Alloc<A = Global>),
+    alloc: Global,
     options: Options,
-    frozen: Option<MemSource<'a>>,
+    start: Frozen<'a>,
     sources: &mut [Source<MemSource<'a>>],
     room: (usize, usize, usize),
     block: usize,
-) -> Seen {
-    let mut frozen = frozen;
-    let mut output = sink(rt, room.0, block);
-    let mut messages = sink(rt, room.1, block);
-    let mut frozen_text = sink(rt, room.2, block);
+) -> Result<Seen, AllocError> {
+    let mut output = MemSink::new(alloc, room.0, block.max(1))?;
+    let mut messages = MemSink::new(alloc, room.1, block.max(1))?;
+    let mut frozen_text = MemSink::new(alloc, room.2, block.max(1))?;
+    let mut frozen = match start {
+        Some((text, fails)) => Some(MemSource::new(text, block.max(1), fails)),
+        None => None,
+    };
     let ending = run(
-        rt.alloc(),
+        alloc,
         options,
         &mut frozen,
         sources,
@@ -167,94 +157,87 @@ pub fn run_over<'a>(
         &mut messages,
         &mut frozen_text,
     );
-    Seen {
+    let is_loaded = match (start, &frozen) {
+        (Some((text, _)), Some(reader)) => reader.taken() == text.len(),
+        _ => true,
+    };
+    Ok(Seen {
         output,
         messages,
         frozen_text,
-        ending,
+        end: (ending.status, ending.cause, ending.wrapped),
+        is_loaded,
+        taken: taken(sources),
+    })
+}
+
+/// Runs a row from this frozen file, if there is one, over these files and with this room.
+pub fn run_row<'a>(
+    alloc: Global,
+    row: &Row,
+    start: Frozen<'a>,
+    files: &[Given],
+    room: (usize, usize, usize),
+    block: usize,
+) -> Result<Seen, AllocError> {
+    let first = if start.is_some() { b'b' } else { b'a' };
+    let mut sources: Vec<Source<MemSource<'a>>> = sources_of(alloc, first, files, block)?;
+    run_over(alloc, options_of(row), start, &mut sources, room, block)
+}
+
+/// Returns the text that a run over these files freezes.
+pub fn frozen_after(
+    alloc: Global,
+    start: Frozen<'_>,
+    files: &[Given],
+    block: usize,
+) -> Result<Vec<u8>, AllocError> {
+    let seen = run_row(alloc, &FREEZING, start, files, AMPLE, block)?;
+    Vec::from_slice(alloc, seen.frozen_text.written())
+}
+
+/// Returns the bytes of the frozen file that a run starts from; none for the fresh state.
+pub fn bytes_of(alloc: Global, start: Start, block: usize) -> Result<Vec<u8>, AllocError> {
+    match start {
+        Start::Fresh => Ok(Vec::new(alloc)),
+        Start::Frozen(text) | Start::Broken(text) => Vec::from_slice(alloc, text.as_bytes()),
+        Start::After(file) => frozen_after(alloc, None, &[Given::File(file)], block),
     }
 }
 
-/// Runs over files from the fresh state.
-pub fn run_fresh(
-    rt: &(impl Abort + Alloc<A = Global>),
-    options: Options,
-    files: &[Given],
-    room: (usize, usize, usize),
-    block: usize,
-) -> Seen {
-    let mut sources = sources_of(rt, b'a', files, block);
-    run_over(rt, options, None, &mut sources, room, block)
-}
-
-/// Runs over files from a frozen file, whose reader may fail after these bytes.
-pub fn run_from<'a>(
-    rt: &(impl Abort + Alloc<A = Global>),
-    options: Options,
-    frozen: (&'a [u8], bool),
-    files: &[Given],
-    room: (usize, usize, usize),
-    block: usize,
-) -> Seen {
-    let reader = MemSource::new(frozen.0, block.max(1), frozen.1);
-    let mut sources: Vec<Source<MemSource<'a>>> = sources_of(rt, b'b', files, block);
-    run_over(rt, options, Some(reader), &mut sources, room, block)
-}
-
-/// Returns the text that a run over this file freezes.
-pub fn frozen_after(
-    rt: &(impl Abort + Alloc<A = Global>),
-    file: &'static str,
-    block: usize,
-) -> Vec<u8> {
-    let seen = run_fresh(rt, freezing(), &[Given::File(file)], AMPLE, block);
-    copied(rt, seen.frozen_text.written())
-}
-
-/// Returns the bytes of the frozen file that a run starts from, and whether its reader fails after them.
-pub fn frozen_of(
-    rt: &(impl Abort + Alloc<A = Global>),
-    start: Start,
-    block: usize,
-) -> Option<(Vec<u8>, bool)> {
+/// Returns the frozen file that a run starts from, which has these bytes.
+pub fn frozen_of(start: Start, bytes: &[u8]) -> Frozen<'_> {
     match start {
         Start::Fresh => None,
-        Start::Frozen(text) => Some((copied(rt, text.as_bytes()), false)),
-        Start::Broken(text) => Some((copied(rt, text.as_bytes()), true)),
-        Start::After(file) => Some((frozen_after(rt, file, block), false)),
+        Start::Frozen(_) | Start::After(_) => Some((bytes, false)),
+        Start::Broken(_) => Some((bytes, true)),
     }
 }
 
-/// Runs a row from this frozen file, if it has one, over these files and with this room.
-pub fn run_row(
-    rt: &(impl Abort + Alloc<A = Global>),
-    row: &Row,
-    frozen: &Option<(Vec<u8>, bool)>,
-    files: &[Given],
-    room: (usize, usize, usize),
-    block: usize,
-) -> Seen {
-    let options = options_of(row);
-    match frozen {
-        None => run_fresh(rt, options, files, room, block),
-        Some((text, fails)) => run_from(rt, options, (text, *fails), files, room, block),
-    }
+/// Runs a row.
+pub fn seen_of(alloc: Global, row: &Row, block: usize) -> Result<Seen, AllocError> {
+    let bytes = bytes_of(alloc, row.start, block)?;
+    let start = frozen_of(row.start, &bytes);
+    run_row(alloc, row, start, row.files, row.room, block)
 }
 
 /// Returns what a row has to leave, as a report.
-pub fn expected_of(alloc: Global, row: &Row) -> Result<Vec<u8>, AllocError> {
-    let parts = row.frozen_text.unwrap_or(&[]);
-    expected(alloc, (row.output, row.messages), row.end, parts)
+fn expected_of(alloc: Global, row: &Row) -> Result<Vec<u8>, AllocError> {
+    let written = (row.output.as_bytes(), row.messages.as_bytes());
+    expected(alloc, written, row.end, row.frozen_text.unwrap_or(&[]))
+}
+
+/// Returns what a row leaves, as a report.
+fn printed_of(alloc: Global, row: &Row, block: usize) -> Result<Vec<u8>, AllocError> {
+    printed_seen(alloc, &seen_of(alloc, row, block)?)
 }
 
 /// Compares what each row leaves, at each size of a block.
 pub fn compare(rt: &(impl Abort + Alloc<A = Global>), rows: &[Row]) {
     for row in rows {
         for block in BLOCKS {
-            let frozen = frozen_of(rt, row.start, block);
-            let seen = run_row(rt, row, &frozen, row.files, row.room, block);
-            let want = expected_of(rt.alloc(), row);
-            agrees_by(rt, row.name, block, want, printed_seen(rt.alloc(), &seen));
+            let got = printed_of(rt.alloc(), row, block);
+            agrees_by(rt, row.name, block, expected_of(rt.alloc(), row), got);
         }
     }
 }

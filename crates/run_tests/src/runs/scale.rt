@@ -1,132 +1,172 @@
 //! Runs over large inputs: long texts, results and delimiters, many arguments, many names.
 
-use super::given::{USUAL, bytes, options, taken};
-use super::report::{ending, printed_run, printed_seen};
-use super::rows::{AMPLE, DONE, End, run_over};
+use super::given::{DONE, End, Seen, USUAL, options};
+use super::report::{expected, printed_seen};
+use super::rows::run_over;
 use super::shows::agrees_by;
 use m4_engine::ending::Cause;
 use m4_engine::source::Source;
+use m4_state::bytes::Bytes;
 use m4_state::memory::MemSource;
 use part_tests::report::Report;
 use std::alloc::{AllocError, Global};
 use std::process::Abort;
+use std::test::Fail;
 
 // Room for any row's output.
 const ROOM: usize = 1_100_000;
 
-// A generated text: its start, a piece with its number of repetitions, and its end.
-type Made = (&'static str, &'static str, usize, &'static str);
+// A large text: its pieces, and how often each stands there.
+type Made = &'static [(&'static str, usize)];
 
-// A row's name, its file and its output.
-static ROWS: [(&str, Made, Made); 7] = [
-    (
-        "text of 260,000 bytes",
-        ("", "a long text, ", 20_000, ""),
-        ("", "a long text, ", 20_000, ""),
-    ),
-    (
-        "500,000 words",
-        ("", "x ", 500_000, ""),
-        ("", "x ", 500_000, ""),
-    ),
-    (
-        "a definition of 1,000,000 bytes",
-        ("define(`f',`", "x", 1_000_000, "')f\n"),
-        ("", "x", 1_000_000, "\n"),
-    ),
-    (
-        "a result of 1,048,576 bytes, by twenty calls that double their argument",
-        ("define(`d',`$1$1')", "d(", 20, "x))))))))))))))))))))\n"),
-        ("", "x", 1_048_576, "\n"),
-    ),
-    (
-        "100,000 arguments of one call",
-        ("define(`f',`$#')f(", ",", 99_999, ")\n"),
-        ("100000\n", "", 0, ""),
-    ),
-    (
-        "the last one of 100,000 arguments",
-        ("define(`f',`$100000')f(", ",", 99_999, "z)\n"),
-        ("z\n", "", 0, ""),
-    ),
-    (
-        "a number of 20 digits after a dollar",
-        ("define(`f',`<$12345678901234567890>')f(a)\n", "", 0, ""),
-        ("<>\n", "", 0, ""),
-    ),
-];
-
-// Adds a piece this many times.
-fn repeat(report: &mut Report, piece: &str, times: usize) {
-    for _ in 0..times {
-        report.add(piece.as_bytes());
-    }
+// A run over a file whose reader returns this many bytes at a time, its limit of nested calls, and what it leaves.
+#[derive(Clone, Copy)]
+struct Large {
+    name: &'static str,
+    block: usize,
+    nesting: u64,
+    file: Made,
+    output: Made,
+    messages: &'static str,
+    end: End,
 }
 
-// Makes a generated text.
-fn made(alloc: Global, (before, piece, times, after): Made) -> Result<Vec<u8>, AllocError> {
+// A run without a limit of nested calls.
+const UNLIMITED: Large = Large {
+    name: "",
+    block: 4096,
+    nesting: 0,
+    file: &[],
+    output: &[],
+    messages: "",
+    end: DONE,
+};
+
+// Expands to runs over large files: of each its name, its file and its output, and then each other field that it has.
+macro_rules! large {
+    ($($name:literal, [$($piece:literal * $times:literal),*] => [$($left:literal * $often:literal),*]
+        $(, $field:ident: $value:expr)*;)*) => {
+        [$(Large {
+            name: $name,
+            file: &[$(($piece, $times)),*],
+            output: &[$(($left, $often)),*],
+            $($field: $value,)*
+            ..UNLIMITED
+        }),*]
+    };
+}
+
+static LARGE: [Large; 7] = large! {
+    "text of 260,000 bytes", ["a long text, " * 20_000] => ["a long text, " * 20_000];
+    "500,000 words", ["x " * 500_000] => ["x " * 500_000];
+    "a definition of 1,000,000 bytes",
+        ["define(`f',`" * 1, "x" * 1_000_000, "')f\n" * 1] => ["x" * 1_000_000, "\n" * 1];
+    "a result of 1,048,576 bytes, by twenty calls that double their argument",
+        ["define(`d',`$1$1')" * 1, "d(" * 20, "x))))))))))))))))))))\n" * 1] => ["x" * 1_048_576, "\n" * 1];
+    "100,000 arguments of one call",
+        ["define(`f',`$#')f(" * 1, "," * 99_999, ")\n" * 1] => ["100000\n" * 1];
+    "the last one of 100,000 arguments",
+        ["define(`f',`$100000')f(" * 1, "," * 99_999, "z)\n" * 1] => ["z\n" * 1];
+    "a number of 20 digits after a dollar",
+        ["define(`f',`<$12345678901234567890>')f(a)\n" * 1] => ["<>\n" * 1];
+};
+
+static WORDS: [Large; 1] = large! {
+    "500,000 words", ["x " * 500_000] => ["x " * 500_000], block: 3;
+};
+
+static QUOTES: [Large; 1] = large! {
+    "quotes of 10,000 bytes",
+        ["changequote(" * 1, "[" * 10_000, "," * 1, "]" * 10_000, ")" * 1, "[" * 10_000, "a b" * 1,
+        "]" * 10_000, "\n" * 1] => ["a b\n" * 1];
+};
+
+static NESTED: [Large; 2] = large! {
+    "100,000 nested calls", ["define(`f',`$1')" * 1, "f(" * 100_000, "x" * 1, ")" * 100_000, "\n" * 1] =>
+        ["x\n" * 1], block: 3;
+    "100,000 nested calls", ["define(`f',`$1')" * 1, "f(" * 100_000, "x" * 1, ")" * 100_000, "\n" * 1] =>
+        ["x\n" * 1];
+};
+
+static LIMITED: [Large; 2] = large! {
+    "as many calls as the usual limit",
+        ["define(`f',`$1')" * 1, "f(" * 1024, "x" * 1, ")" * 1024, "\n" * 1] => ["x\n" * 1], nesting: USUAL.1;
+    "one call more", ["define(`f',`$1')" * 1, "f(" * 1025, "x" * 1, ")" * 1025, "\n" * 1] => [],
+        nesting: USUAL.1, messages: "m4:a.m4:1: ERROR: more than 1024 nested calls\n",
+        end: (1, Cause::NestingLimit, false);
+};
+
+// A run that a macro ends before 1,000,000 bytes.
+static EXIT: [Large; 1] = large! {
+    "an early exit", ["m4exit\n" * 1, "x" * 1_000_000] => [], nesting: USUAL.1,
+        end: (0, Cause::Exited(0), false);
+};
+
+// Makes a large text.
+fn made(alloc: Global, pieces: Made) -> Result<Vec<u8>, AllocError> {
     let mut report = Report::new(alloc);
-    report.add(before.as_bytes());
-    repeat(&mut report, piece, times);
-    report.add(after.as_bytes());
+    for &(piece, times) in pieces {
+        for _ in 0..times {
+            report.add(piece.as_bytes());
+        }
+    }
     report.text()
 }
 
-// Makes a file whose reader returns this many bytes at a time.
-fn opened<'a>(
-    rt: &(impl Abort + Alloc<A = Global>),
-    text: &'a [u8],
-    block: usize,
-) -> Source<MemSource<'a>> {
-    Source::Opened {
-        name: bytes(rt, b"a.m4"),
-        reader: MemSource::new(text, block.max(1), false),
-    }
+// Runs over this file.
+fn seen_of(alloc: Global, row: &Large, file: &[u8]) -> Result<Seen, AllocError> {
+    let mut sources = [Source::Opened {
+        name: Bytes::from_slice(alloc, b"a.m4")?,
+        reader: MemSource::new(file, row.block.max(1), false),
+    }];
+    let options = options((USUAL.0, row.nesting));
+    run_over(alloc, options, None, &mut sources, (ROOM, 1024, 1024), 4096)
 }
 
-// Compares a run over a file, with this limit of nested calls, with its output, its messages and its end.
-fn compare_run(
+// Compares what a run over this file leaves.
+fn compare_file(
     rt: &(impl Abort + Alloc<A = Global>),
-    (name, block, nesting): (&str, usize, u64),
+    row: &Large,
     file: &[u8],
-    (output, messages): (&[u8], &[u8]),
-    end: End,
-) {
-    let mut sources = [opened(rt, file, block)];
-    let options = options((USUAL.0, nesting));
-    let seen = run_over(rt, options, None, &mut sources, (ROOM, 1024, 1024), 4096);
-    let want = printed_run(rt.alloc(), output, messages, ending(end));
-    agrees_by(rt, name, block, want, printed_seen(rt.alloc(), &seen));
+) -> Result<(), AllocError> {
+    let output = made(rt.alloc(), row.output)?;
+    let want = expected(rt.alloc(), (&output, row.messages.as_bytes()), row.end, &[]);
+    let got = printed_seen(rt.alloc(), &seen_of(rt.alloc(), row, file)?);
+    agrees_by(rt, row.name, row.block, want, got);
+    Ok(())
 }
 
-// Compares a run over a file with its output.
-fn compare(
-    rt: &(impl Abort + Alloc<A = Global>),
-    (name, block): (&str, usize),
-    file: Result<Vec<u8>, AllocError>,
-    output: Result<Vec<u8>, AllocError>,
-) {
-    match (file, output) {
-        (Ok(file), Ok(output)) => {
-            compare_run(rt, (name, block, 0), &file, (&output, b""), DONE);
-        }
-        _ => panic!(rt; "{name}: out of memory"),
+// Compares what each run leaves.
+fn compare(rt: &(impl Abort + Alloc<A = Global>), rows: &[Large]) -> Result<(), Fail> {
+    for row in rows {
+        compare_file(rt, row, &made(rt.alloc(), row.file)?)?;
     }
+    Ok(())
 }
 
 #[test]
-fn large_inputs(rt: HostRuntime) {
-    for &(name, file, output) in &ROWS {
-        let (file, output) = (made(rt.alloc(), file), made(rt.alloc(), output));
-        compare(&rt, (name, 4096), file, output);
-    }
+fn large_inputs(rt: HostRuntime) -> Result<(), Fail> {
+    compare(&rt, &LARGE)
 }
 
 #[test]
-fn words_in_small_blocks(rt: HostRuntime) {
-    let words = ("", "x ", 500_000, "");
-    let (file, output) = (made(rt.alloc(), words), made(rt.alloc(), words));
-    compare(&rt, ("500,000 words", 3), file, output);
+fn words_in_small_blocks(rt: HostRuntime) -> Result<(), Fail> {
+    compare(&rt, &WORDS)
+}
+
+#[test]
+fn quotes_of_10000_bytes(rt: HostRuntime) -> Result<(), Fail> {
+    compare(&rt, &QUOTES)
+}
+
+#[test]
+fn calls_within_calls(rt: HostRuntime) -> Result<(), Fail> {
+    compare(&rt, &NESTED)
+}
+
+#[test]
+fn usual_limit_of_nested_calls(rt: HostRuntime) -> Result<(), Fail> {
+    compare(&rt, &LIMITED)
 }
 
 // The number of names that are defined.
@@ -146,68 +186,15 @@ fn many_names(alloc: Global) -> Result<Vec<u8>, AllocError> {
     report.text()
 }
 
-// Returns a file whose quotes have 10,000 bytes each.
-fn long_quotes(alloc: Global) -> Result<Vec<u8>, AllocError> {
-    let mut report = Report::new(alloc);
-    report.add(b"changequote(");
-    repeat(&mut report, "[", 10_000);
-    report.add(b",");
-    repeat(&mut report, "]", 10_000);
-    report.add(b")");
-    repeat(&mut report, "[", 10_000);
-    report.add(b"a b");
-    repeat(&mut report, "]", 10_000);
-    report.add(b"\n");
-    report.text()
-}
-
-// Returns a file with this many calls, one within another.
-fn nested_calls(alloc: Global, depth: usize) -> Result<Vec<u8>, AllocError> {
-    let mut report = Report::new(alloc);
-    report.add(b"define(`f',`$1')");
-    repeat(&mut report, "f(", depth);
-    report.add(b"x");
-    repeat(&mut report, ")", depth);
-    report.add(b"\n");
-    report.text()
-}
-
 #[test]
-fn calls_within_calls(rt: HostRuntime) {
-    for block in [3, 4096] {
-        let file = nested_calls(rt.alloc(), 100_000);
-        let want = Vec::from_slice(rt.alloc(), b"x\n");
-        compare(&rt, ("100,000 nested calls", block), file, want);
-    }
-}
-
-// A number of calls, one within another, and what a run with the usual limit of 1,024 leaves.
-static NESTED: [(usize, &[u8], &[u8], End); 2] = [
-    (1024, b"x\n", b"", DONE),
-    (
-        1025,
-        b"",
-        b"m4:a.m4:1: ERROR: more than 1024 nested calls\n",
-        (1, Cause::NestingLimit, false),
-    ),
-];
-
-#[test]
-fn usual_limit_of_nested_calls(rt: HostRuntime) {
-    for &(depth, output, messages, end) in &NESTED {
-        match nested_calls(rt.alloc(), depth) {
-            Ok(file) => {
-                let row = ("calls about the usual limit", 4096, USUAL.1);
-                compare_run(&rt, row, &file, (output, messages), end);
-            }
-            Err(AllocError) => panic!(rt; "out of memory"),
-        }
-    }
-}
-
-// Returns a file that ends the run before 1,000,000 bytes.
-fn early_exit(alloc: Global) -> Result<Vec<u8>, AllocError> {
-    made(alloc, ("m4exit\n", "x", 1_000_000, ""))
+fn names_by_the_hundred_thousand(rt: HostRuntime) -> Result<(), Fail> {
+    let row = Large {
+        name: "100,000 names",
+        output: &[("0 50000 99999\n", 1)],
+        ..UNLIMITED
+    };
+    compare_file(&rt, &row, &many_names(rt.alloc())?)?;
+    Ok(())
 }
 
 // How many bytes a reader returns at a time, and how many it returned in all: the newline after the name, which is
@@ -215,39 +202,14 @@ fn early_exit(alloc: Global) -> Result<Vec<u8>, AllocError> {
 static TAKEN: [(usize, usize); 4] = [(1, 7), (2, 8), (3, 9), (4096, 4096)];
 
 #[test]
-fn bytes_after_an_exit_are_not_read(rt: HostRuntime) {
-    let Ok(text) = early_exit(rt.alloc()) else {
-        panic!(rt; "out of memory");
-    };
-    for (block, most) in TAKEN {
-        let mut sources = [opened(&rt, &text, block)];
-        let seen = run_over(&rt, options(USUAL), None, &mut sources, AMPLE, block);
-        let want = printed_run(rt.alloc(), b"", b"", ending((0, Cause::Exited(0), false)));
-        agrees_by(
-            &rt,
-            "an early exit",
-            block,
-            want,
-            printed_seen(rt.alloc(), &seen),
-        );
-        let read = taken(&sources);
-        assert_eq!(rt; read, most);
+fn bytes_after_an_exit_are_not_read(rt: HostRuntime) -> Result<(), Fail> {
+    for row in &EXIT {
+        let file = made(rt.alloc(), row.file)?;
+        for (block, most) in TAKEN {
+            let row = Large { block, ..*row };
+            compare_file(&rt, &row, &file)?;
+            assert_eq!(rt; seen_of(rt.alloc(), &row, &file)?.taken, most);
+        }
     }
-}
-
-#[test]
-fn names_by_the_hundred_thousand(rt: HostRuntime) {
-    let want = Vec::from_slice(rt.alloc(), b"0 50000 99999\n");
-    compare(&rt, ("100,000 names", 4096), many_names(rt.alloc()), want);
-}
-
-#[test]
-fn quotes_of_10000_bytes(rt: HostRuntime) {
-    let want = Vec::from_slice(rt.alloc(), b"a b\n");
-    compare(
-        &rt,
-        ("quotes of 10,000 bytes", 4096),
-        long_quotes(rt.alloc()),
-        want,
-    );
+    Ok(())
 }

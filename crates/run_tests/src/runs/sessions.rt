@@ -1,9 +1,11 @@
 //! Sessions call by call: their results and their outputs.
 
-use super::given::{BLOCKS, ROOM, bytes, options, sink};
+use self::Call::{Failing, File, Finish, Freeze, Missing, Status};
+use super::given::{BLOCKS, ROOM, options};
 use super::shows::agrees_by;
 use m4_engine::session::Session;
 use m4_engine::stop::Stop;
+use m4_state::bytes::Bytes;
 use m4_state::memory::{MemSink, MemSource};
 use part_tests::report::Report;
 use std::alloc::{AllocError, Global};
@@ -26,175 +28,84 @@ enum Call {
     Status,
 }
 
-// A row's name, the frozen file that it starts from, the room for output, its calls, and the expected report: a result
+// The frozen file that a session starts from, the room for output, its calls, and the expected report: a result
 // a line, and then output, messages and the frozen text.
-type Row = (
-    &'static str,
-    Option<&'static str>,
-    usize,
-    &'static [Call],
-    &'static str,
-);
+struct Row {
+    name: &'static str,
+    start: Option<&'static str>,
+    room: usize,
+    calls: &'static [Call],
+    report: &'static str,
+}
 
-static FRESH: [Row; 9] = [
-    (
-        "two files and the end",
-        None,
-        1024,
-        &[
-            Call::File("define(`hi',`Hello $1.')dnl\n"),
-            Call::File("hi(`you')\n"),
-            Call::Finish,
-            Call::Status,
-        ],
-        "Ok(())\nOk(())\nOk(())\n(0, false)\nHello you.\n||",
-    ),
-    (
-        "no name and no call spans two files",
-        None,
-        1024,
-        &[
-            Call::File("define(`f',`<$#>')dnl\nf"),
-            Call::File("(1)\n"),
-            Call::Finish,
-            Call::Status,
-        ],
-        "Ok(())\nOk(())\nOk(())\n(0, false)\n<0>(1)\n||",
-    ),
-    (
-        "a file that isn't opened; nothing is done after the end",
-        None,
-        1024,
-        &[
-            Call::Missing("nofile"),
-            Call::File("z\n"),
-            Call::Finish,
-            Call::Status,
-            Call::Finish,
-        ],
-        "Ok(())\nOk(())\nOk(())\n(1, false)\nErr(Finished)\nz\n|m4: cannot open `nofile'\n|",
-    ),
-    (
-        "a reader that fails",
-        None,
-        1024,
-        &[Call::Failing("ab "), Call::Status, Call::Missing("c")],
-        "Err(Ended(Read))\n(1, false)\nErr(Finished)\nab ||",
-    ),
-    (
-        "a writer that fails",
-        None,
-        5,
-        &[Call::File("one two\n"), Call::Status],
-        "Err(Ended(Write))\n(1, false)\none t||",
-    ),
-    (
-        "a string without an end",
-        None,
-        1024,
-        &[Call::File("`abc"), Call::Status, Call::File("x\n")],
-        "Err(Ended(EndInString))\n(1, false)\nErr(Finished)\n|m4:a.m4:1: ERROR: end of input in string\n|",
-    ),
-    (
-        "text is saved until the end, and then none is left",
-        None,
-        1024,
-        &[
-            Call::File("m4wrap(`m4wrap(`c')b')a\n"),
-            Call::Status,
-            Call::File("d\n"),
-            Call::Finish,
-            Call::Status,
-            Call::Finish,
-        ],
-        "Ok(())\n(0, true)\nOk(())\nOk(())\n(0, false)\nErr(Finished)\na\nd\nbc||",
-    ),
-    (
-        "a macro ends the run",
-        None,
-        1024,
-        &[
-            Call::File("x m4exit(`3')y\n"),
-            Call::Status,
-            Call::File("z\n"),
-            Call::Finish,
-        ],
-        "Err(Ended(Exited(3)))\n(3, false)\nErr(Finished)\nErr(Finished)\nx ||",
-    ),
-    (
-        "a macro within saved text ends the run with code 0, after a file that isn't opened",
-        None,
-        1024,
-        &[
-            Call::Missing("nofile"),
-            Call::File("divert(1)m4wrap(`divert(0)w m4exit v')d\n"),
-            Call::Finish,
-            Call::Status,
-            Call::Missing("c"),
-        ],
-        "Ok(())\nOk(())\nErr(Ended(Exited(0)))\n(1, false)\nErr(Finished)\nw |m4: cannot open `nofile'\n|",
-    ),
-];
+// A session from the fresh state without calls.
+const FRESH: Row = Row {
+    name: "",
+    start: None,
+    room: 1024,
+    calls: &[],
+    report: "",
+};
 
-static RELOADED: [Row; 6] = [
-    (
-        "a frozen file, whose text is written first, and a state that is frozen",
-        Some("V1\nD0,3\nhi\n\nT1,1\nab\n"),
-        1024,
-        &[
-            Call::Status,
-            Call::File("a\n"),
-            Call::Freeze,
-            Call::Status,
-            Call::Freeze,
-            Call::File("a\n"),
-        ],
+// Expands to sessions: of each its name, its calls and the report, and then each other field that it has.
+macro_rules! sessions {
+    ($($name:literal, [$($call:expr),*] => $report:literal $(, $field:ident: $value:expr)*;)*) => {
+        [$(Row {
+            name: $name,
+            calls: &[$($call),*],
+            report: $report,
+            $($field: $value,)*
+            ..FRESH
+        }),*]
+    };
+}
+
+static STARTED: [Row; 9] = sessions! {
+    "two files and the end", [File("define(`hi',`Hello $1.')dnl\n"), File("hi(`you')\n"), Finish, Status] =>
+        "Ok(())\nOk(())\nOk(())\n(0, false)\nHello you.\n||";
+    "no name and no call spans two files",
+        [File("define(`f',`<$#>')dnl\nf"), File("(1)\n"), Finish, Status] =>
+        "Ok(())\nOk(())\nOk(())\n(0, false)\n<0>(1)\n||";
+    "a file that isn't opened; nothing is done after the end",
+        [Missing("nofile"), File("z\n"), Finish, Status, Finish] =>
+        "Ok(())\nOk(())\nOk(())\n(1, false)\nErr(Finished)\nz\n|m4: cannot open `nofile'\n|";
+    "a reader that fails", [Failing("ab "), Status, Missing("c")] =>
+        "Err(Ended(Read))\n(1, false)\nErr(Finished)\nab ||";
+    "a writer that fails", [File("one two\n"), Status] => "Err(Ended(Write))\n(1, false)\none t||", room: 5;
+    "a string without an end", [File("`abc"), Status, File("x\n")] =>
+        "Err(Ended(EndInString))\n(1, false)\nErr(Finished)\n|m4:a.m4:1: ERROR: end of input in string\n|";
+    "text is saved until the end, and then none is left",
+        [File("m4wrap(`m4wrap(`c')b')a\n"), Status, File("d\n"), Finish, Status, Finish] =>
+        "Ok(())\n(0, true)\nOk(())\nOk(())\n(0, false)\nErr(Finished)\na\nd\nbc||";
+    "a macro ends the run", [File("x m4exit(`3')y\n"), Status, File("z\n"), Finish] =>
+        "Err(Ended(Exited(3)))\n(3, false)\nErr(Finished)\nErr(Finished)\nx ||";
+    "a macro within saved text ends the run with code 0, after a file that isn't opened",
+        [Missing("nofile"), File("divert(1)m4wrap(`divert(0)w m4exit v')d\n"), Finish, Status, Missing("c")] =>
+        "Ok(())\nOk(())\nErr(Ended(Exited(0)))\n(1, false)\nErr(Finished)\nw |m4: cannot open `nofile'\n|";
+};
+
+static RELOADED: [Row; 6] = sessions! {
+    "a frozen file, whose text is written first, and a state that is frozen",
+        [Status, File("a\n"), Freeze, Status, Freeze, File("a\n")] =>
         "(0, false)\nOk(())\nOk(())\n(0, false)\nErr(Finished)\nErr(Finished)\nhi\nb\n||\
          # m4 frozen state\nV1\nT1,1\nab\n# End of frozen state file\n",
-    ),
-    (
-        "diversions of a frozen file, which are issued at the end",
-        Some("V1\nD2,4\ntwo\n\nD1,4\none\n\nD0,0\n\n"),
-        1024,
-        &[Call::File("x\n"), Call::Finish, Call::Freeze],
+        start: Some("V1\nD0,3\nhi\n\nT1,1\nab\n");
+    "diversions of a frozen file, which are issued at the end", [File("x\n"), Finish, Freeze] =>
         "Ok(())\nOk(())\nErr(Finished)\nx\none\ntwo\n||",
-    ),
-    (
-        "text is saved, and read before the state is frozen",
-        Some("V1\nF6,6\nm4wrapm4wrap\n"),
-        1024,
-        &[
-            Call::File("m4wrap(`w')x\n"),
-            Call::Status,
-            Call::Missing("nofile"),
-            Call::Freeze,
-            Call::Status,
-        ],
+        start: Some("V1\nD2,4\ntwo\n\nD1,4\none\n\nD0,0\n\n");
+    "text is saved, and read before the state is frozen",
+        [File("m4wrap(`w')x\n"), Status, Missing("nofile"), Freeze, Status] =>
         "Ok(())\n(0, true)\nOk(())\nOk(())\n(1, false)\nx\nw|m4: cannot open `nofile'\n|\
          # m4 frozen state\nV1\nF6,6\nm4wrapm4wrap\n# End of frozen state file\n",
-    ),
-    (
-        "saved text that breaks off: nothing is frozen",
-        Some("V1\nF6,6\nm4wrapm4wrap\n"),
-        1024,
-        &[Call::File("m4wrap(`w # a')x\n"), Call::Freeze, Call::Status],
+        start: Some("V1\nF6,6\nm4wrapm4wrap\n");
+    "saved text that breaks off: nothing is frozen", [File("m4wrap(`w # a')x\n"), Freeze, Status] =>
         "Ok(())\nErr(Ended(EndInComment))\n(1, false)\nx\nw |m4: ERROR: end of input in comment\n|",
-    ),
-    (
-        "a frozen file that is refused",
-        Some("V1\nX"),
-        1024,
-        &[Call::Status],
-        "Err(Ended(Frozen(FrozenFault { kind: UnknownDirective, offset: 3 })))\n||",
-    ),
-    (
-        "no room for the text of a frozen file",
-        Some("V1\nD0,3\nhi\n\n"),
-        2,
-        &[Call::Status],
-        "Err(Ended(Write))\nhi||",
-    ),
-];
+        start: Some("V1\nF6,6\nm4wrapm4wrap\n");
+    "a frozen file that is refused", [Status] =>
+        "Err(Ended(Frozen(FrozenFault { kind: UnknownDirective, offset: 3 })))\n||", start: Some("V1\nX");
+    "no room for the text of a frozen file", [Status] => "Err(Ended(Write))\nhi||",
+        start: Some("V1\nD0,3\nhi\n\n"), room: 2;
+};
 
 // The writers of a session.
 struct Writers {
@@ -214,46 +125,33 @@ impl Drop for Writers {
     }
 }
 
-// Reads a file whose reader returns this many bytes at a time, and may fail after its text.
-fn read(
-    rt: &(impl Abort + Alloc<A = Global>),
-    session: &mut Session,
-    file: (&str, bool),
-    block: usize,
-    writers: &mut Writers,
-    report: &mut Report,
-) {
-    let mut reader = MemSource::new(file.0.as_bytes(), block.max(1), file.1);
-    let name = bytes(rt, b"a.m4");
-    let answer = session.file(name, &mut reader, &mut writers.out, &mut writers.messages);
-    report.print(&answer);
-}
-
-// Makes a call, and adds its result.
+// Makes a call with readers that return this many bytes at a time, and adds its result.
 fn make(
-    rt: &(impl Abort + Alloc<A = Global>),
     session: &mut Session,
     call: Call,
     block: usize,
     writers: &mut Writers,
     report: &mut Report,
+    name: Bytes,
 ) {
+    let Writers {
+        out,
+        messages,
+        frozen_text,
+    } = writers;
     match call {
-        Call::File(text) => read(rt, session, (text, false), block, writers, report),
-        Call::Failing(text) => read(rt, session, (text, true), block, writers, report),
-        Call::Missing(name) => {
-            report.print(&session.missing(name.as_bytes(), &mut writers.messages));
+        File(text) => {
+            let mut reader = MemSource::new(text.as_bytes(), block.max(1), false);
+            report.print(&session.file(name, &mut reader, out, messages));
         }
-        Call::Finish => report.print(&session.finish(&mut writers.out, &mut writers.messages)),
-        Call::Freeze => {
-            let Writers {
-                out,
-                messages,
-                frozen_text,
-            } = writers;
-            report.print(&session.freeze(out, messages, frozen_text));
+        Failing(text) => {
+            let mut reader = MemSource::new(text.as_bytes(), block.max(1), true);
+            report.print(&session.file(name, &mut reader, out, messages));
         }
-        Call::Status => report.print(&(session.status(), session.wrapped())),
+        Missing(name) => report.print(&session.missing(name.as_bytes(), messages)),
+        Finish => report.print(&session.finish(out, messages)),
+        Freeze => report.print(&session.freeze(out, messages, frozen_text)),
+        Status => report.print(&(session.status(), session.wrapped())),
     }
     report.add(b"\n");
 }
@@ -276,16 +174,17 @@ fn started(
 
 // Adds the results of a row's calls, or that of its start if it is refused.
 fn add_calls(
-    rt: &(impl Abort + Alloc<A = Global>),
+    alloc: Global,
     row: &Row,
     block: usize,
     writers: &mut Writers,
     report: &mut Report,
-) {
-    match started(rt.alloc(), row.1, block, &mut writers.out) {
+) -> Result<(), AllocError> {
+    match started(alloc, row.start, block, &mut writers.out) {
         Ok(mut session) => {
-            for call in row.3 {
-                make(rt, &mut session, *call, block, writers, report);
+            for call in row.calls {
+                let name = Bytes::from_slice(alloc, b"a.m4")?;
+                make(&mut session, *call, block, writers, report, name);
             }
         }
         Err(stop) => {
@@ -294,21 +193,18 @@ fn add_calls(
             report.add(b")\n");
         }
     }
+    Ok(())
 }
 
 // Reports a row.
-fn seen(
-    rt: &(impl Abort + Alloc<A = Global>),
-    row: &Row,
-    block: usize,
-) -> Result<Vec<u8>, AllocError> {
-    let mut report = Report::new(rt.alloc());
+fn seen(alloc: Global, row: &Row, block: usize) -> Result<Vec<u8>, AllocError> {
+    let mut report = Report::new(alloc);
     let mut writers = Writers {
-        out: sink(rt, row.2, block),
-        messages: sink(rt, ROOM, block),
-        frozen_text: sink(rt, ROOM, block),
+        out: MemSink::new(alloc, row.room, block.max(1))?,
+        messages: MemSink::new(alloc, ROOM, block.max(1))?,
+        frozen_text: MemSink::new(alloc, ROOM, block.max(1))?,
     };
-    add_calls(rt, row, block, &mut writers, &mut report);
+    add_calls(alloc, row, block, &mut writers, &mut report)?;
     report.pair(writers.out.written(), b"|");
     report.pair(writers.messages.written(), b"|");
     report.add(writers.frozen_text.written());
@@ -319,15 +215,15 @@ fn seen(
 fn compare(rt: &(impl Abort + Alloc<A = Global>), rows: &[Row]) {
     for row in rows {
         for block in BLOCKS {
-            let want = Vec::from_slice(rt.alloc(), row.4.as_bytes());
-            agrees_by(rt, row.0, block, want, seen(rt, row, block));
+            let want = Vec::from_slice(rt.alloc(), row.report.as_bytes());
+            agrees_by(rt, row.name, block, want, seen(rt.alloc(), row, block));
         }
     }
 }
 
 #[test]
 fn calls_and_their_answers(rt: HostRuntime) {
-    compare(&rt, &FRESH);
+    compare(&rt, &STARTED);
 }
 
 #[test]

@@ -19,20 +19,8 @@ pub fn shows(rt: &impl Abort, row: &str, expected: &[u8], got: Result<Vec<u8>, A
     }
 }
 
-/// Does the same for an expected report that was made for the row.
-pub fn agrees(
-    rt: &impl Abort,
-    row: &str,
-    expected: Result<Vec<u8>, AllocError>,
-    got: Result<Vec<u8>, AllocError>,
-) {
-    match expected {
-        Ok(expected) => shows(rt, row, &expected, got),
-        Err(AllocError) => panic!(rt; "{row}: out of memory"),
-    }
-}
-
-/// Does the same for a row whose readers return this many bytes at a time. A row that failed names them.
+/// Does the same for an expected report that was made for the row, whose devices take this many bytes at a time. A row
+/// that failed names them.
 pub fn agrees_by(
     rt: &impl Abort,
     row: &str,

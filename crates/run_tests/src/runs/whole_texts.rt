@@ -2,7 +2,7 @@
 //! loading of frozen state", "Frozen file format".
 
 use super::rows::Given::File;
-use super::rows::{QUIET, Row, compare};
+use super::rows::{Row, compare};
 use m4_engine::ending::Cause;
 
 /// The first two lines of a frozen text.
@@ -22,30 +22,33 @@ pub const NAMES: &str =
     F8,8\ntranslittranslit\nF8,8\nundefineundefine\nF8,8\nundivertundivert\n";
 
 /// The same in parts, for names between them: those that begin with an underscore.
-pub const UNDERSCORES: &str =
+const UNDERSCORES: &str =
     "F8,8\n__file____file__\nT7,0\n__gnu__\nF8,8\n__line____line__\nT8,0\n__unix__\n";
 
 /// The one of `builtin`.
-pub const BUILTIN: &str = "F7,7\nbuiltinbuiltin\n";
+const BUILTIN: &str = "F7,7\nbuiltinbuiltin\n";
 
 /// Those of the delimiters.
-pub const CHANGES: &str = "F9,9\nchangecomchangecom\nF11,11\nchangequotechangequote\n";
+const CHANGES: &str = "F9,9\nchangecomchangecom\nF11,11\nchangequotechangequote\n";
 
 /// Those from `decr` to `eval`.
-pub const DECR_TO_EVAL: &str =
+const DECR_TO_EVAL: &str =
     "F4,4\ndecrdecr\nF6,6\ndefinedefine\nF4,4\ndefndefn\nF6,6\ndivertdivert\nF6,6\ndivnumdivnum\n\
     F3,3\ndnldnl\nF7,7\ndumpdefdumpdef\nF8,8\nerrprinterrprint\nF4,4\nevaleval\n";
 
-/// Those from `ifdef` to `pushdef`.
-pub const IFDEF_TO_PUSHDEF: &str =
+/// Those from `ifdef` to `m4wrap`.
+const IFDEF_TO_M4WRAP: &str =
     "F5,5\nifdefifdef\nF6,6\nifelseifelse\nF4,4\nincrincr\nF5,5\nindexindex\nF5,5\nindirindir\n\
-    F3,3\nlenlen\nF6,6\nm4exitm4exit\nF6,6\nm4wrapm4wrap\nF6,6\npopdefpopdef\nF7,7\npushdefpushdef\n";
+    F3,3\nlenlen\nF6,6\nm4exitm4exit\nF6,6\nm4wrapm4wrap\n";
+
+/// Those of `popdef` and `pushdef`.
+const POPDEF_AND_PUSHDEF: &str = "F6,6\npopdefpopdef\nF7,7\npushdefpushdef\n";
 
 /// The one of `shift`.
-pub const SHIFT: &str = "F5,5\nshiftshift\n";
+const SHIFT: &str = "F5,5\nshiftshift\n";
 
 /// Those from `substr` on.
-pub const SUBSTR_ON: &str =
+const SUBSTR_ON: &str =
     "F6,6\nsubstrsubstr\nF8,8\ntranslittranslit\nF8,8\nundefineundefine\nF8,8\nundivertundivert\n";
 
 /// The directives of the fresh state if its builtins have prefixes.
@@ -63,164 +66,94 @@ const PREFIXED: &str =
 /// The frozen text of the fresh state.
 pub const FRESH_TEXT: &[&str] = &[BEGIN, NAMES, END];
 
-/// A run from the fresh state that freezes.
-const FRESH: Row = Row {
-    frozen_text: Some(FRESH_TEXT),
-    ..QUIET
+/// The frozen text of a state where `shift` has another name.
+pub const CUT_TEXT: &[&str] = &[
+    BEGIN,
+    UNDERSCORES,
+    BUILTIN,
+    CHANGES,
+    "F3,5\ncutshift\n",
+    DECR_TO_EVAL,
+    IFDEF_TO_M4WRAP,
+    POPDEF_AND_PUSHDEF,
+    SUBSTR_ON,
+    END,
+];
+
+/// The frozen text of a state with a greeting.
+pub const GREETING_TEXT: &[&str] = &[
+    BEGIN,
+    UNDERSCORES,
+    BUILTIN,
+    CHANGES,
+    DECR_TO_EVAL,
+    "T2,9\nhiHello $1.\n",
+    IFDEF_TO_M4WRAP,
+    POPDEF_AND_PUSHDEF,
+    SHIFT,
+    SUBSTR_ON,
+    END,
+];
+
+// The frozen text of a state with a stack of two definitions and a diversion.
+const DIVERTED_TEXT: &[&str] = &[
+    BEGIN,
+    UNDERSCORES,
+    BUILTIN,
+    CHANGES,
+    DECR_TO_EVAL,
+    IFDEF_TO_M4WRAP,
+    "T1,1\nn1\nT1,1\nn2\n",
+    POPDEF_AND_PUSHDEF,
+    SHIFT,
+    SUBSTR_ON,
+    "D1,2\n2\n\n",
+    END,
+];
+
+static STATES: [Row; 9] = rows! {
+    "the fresh state", [] => "", frozen_text: Some(FRESH_TEXT);
+    "the fresh state with prefixes", [] => "", prefix: true, frozen_text: Some(&[BEGIN, PREFIXED, END]);
+    "the same after an empty file", "" => "", prefix: true, frozen_text: Some(&[BEGIN, PREFIXED, END]);
+    "a stack of two definitions", "define(`x',`1')pushdef(`x',`2')dnl\n" => "",
+        frozen_text: Some(&[BEGIN, NAMES, "T1,1\nx1\nT1,1\nx2\n", END]);
+    "a builtin under another name", "define(`cut',defn(`shift'))undefine(`shift')cut(1,2,3) shift(1)\n" =>
+        "2,3 shift(1)\n",
+        frozen_text: Some(CUT_TEXT);
+    "a builtin under another name, which is called later",
+        "define(`cut',defn(`shift'))undefine(`shift')dnl\n" => "", frozen_text: Some(CUT_TEXT);
+    "a name that is called later", "define(`hi',`Hello $1.')dnl\n" => "", frozen_text: Some(GREETING_TEXT);
+    "three names in another order, the first of them defined again",
+        "define(`b',`B')define(`a',`A')define(`c',`C')undefine(`b')define(`b',`B')dnl\n" => "",
+        frozen_text: Some(&[BEGIN, UNDERSCORES, "T1,1\naA\nT1,1\nbB\n", BUILTIN, "T1,1\ncC\n", CHANGES, DECR_TO_EVAL,
+            IFDEF_TO_M4WRAP, POPDEF_AND_PUSHDEF, SHIFT, SUBSTR_ON, END]);
+    "three names, one of them defined again",
+        "define(`b',`1')define(`a',`2')define(`c',`3')undefine(`a')define(`a',`4')dnl\n" => "",
+        frozen_text: Some(&[BEGIN, UNDERSCORES, "T1,1\na4\nT1,1\nb1\n", BUILTIN, "T1,1\nc3\n", CHANGES, DECR_TO_EVAL,
+            IFDEF_TO_M4WRAP, POPDEF_AND_PUSHDEF, SHIFT, SUBSTR_ON, END]);
 };
 
-static STATES: [Row; 8] = [
-    Row {
-        name: "the fresh state",
-        ..FRESH
-    },
-    Row {
-        name: "the fresh state with prefixes",
-        prefix: true,
-        frozen_text: Some(&[BEGIN, PREFIXED, END]),
-        ..FRESH
-    },
-    Row {
-        name: "a stack of two definitions",
-        files: &[File("define(`x',`1')pushdef(`x',`2')dnl\n")],
-        frozen_text: Some(&[BEGIN, NAMES, "T1,1\nx1\nT1,1\nx2\n", END]),
-        ..FRESH
-    },
-    Row {
-        name: "a builtin under another name",
-        files: &[File("define(`cut',defn(`shift'))undefine(`shift')cut(1,2,3) shift(1)\n")],
-        output: "2,3 shift(1)\n",
-        frozen_text: Some(&[
-            BEGIN,
-            UNDERSCORES,
-            BUILTIN,
-            CHANGES,
-            "F3,5\ncutshift\n",
-            DECR_TO_EVAL,
-            IFDEF_TO_PUSHDEF,
-            SUBSTR_ON,
-            END,
-        ]),
-        ..FRESH
-    },
-    Row {
-        name: "a builtin under another name, which is called later",
-        files: &[File("define(`cut',defn(`shift'))undefine(`shift')dnl\n")],
-        frozen_text: Some(&[
-            BEGIN,
-            UNDERSCORES,
-            BUILTIN,
-            CHANGES,
-            "F3,5\ncutshift\n",
-            DECR_TO_EVAL,
-            IFDEF_TO_PUSHDEF,
-            SUBSTR_ON,
-            END,
-        ]),
-        ..FRESH
-    },
-    Row {
-        name: "a name that is called later",
-        files: &[File("define(`hi',`Hello $1.')dnl\n")],
-        frozen_text: Some(&[
-            BEGIN,
-            UNDERSCORES,
-            BUILTIN,
-            CHANGES,
-            DECR_TO_EVAL,
-            "T2,9\nhiHello $1.\n",
-            IFDEF_TO_PUSHDEF,
-            SHIFT,
-            SUBSTR_ON,
-            END,
-        ]),
-        ..FRESH
-    },
-    Row {
-        name: "three names in another order, the first of them defined again",
-        files: &[File(
-            "define(`b',`B')define(`a',`A')define(`c',`C')undefine(`b')define(`b',`B')dnl\n",
-        )],
-        frozen_text: Some(&[
-            BEGIN,
-            UNDERSCORES,
-            "T1,1\naA\nT1,1\nbB\n",
-            BUILTIN,
-            "T1,1\ncC\n",
-            CHANGES,
-            DECR_TO_EVAL,
-            IFDEF_TO_PUSHDEF,
-            SHIFT,
-            SUBSTR_ON,
-            END,
-        ]),
-        ..FRESH
-    },
-    Row {
-        name: "three names, one of them defined again",
-        files: &[File(
-            "define(`b',`1')define(`a',`2')define(`c',`3')undefine(`a')define(`a',`4')dnl\n",
-        )],
-        frozen_text: Some(&[
-            BEGIN,
-            UNDERSCORES,
-            "T1,1\na4\nT1,1\nb1\n",
-            BUILTIN,
-            "T1,1\nc3\n",
-            CHANGES,
-            DECR_TO_EVAL,
-            IFDEF_TO_PUSHDEF,
-            SHIFT,
-            SUBSTR_ON,
-            END,
-        ]),
-        ..FRESH
-    },
-];
-
-static SETTINGS: [Row; 6] = [
-    Row {
-        name: "quotes that are changed, and no comments",
-        files: &[File("changequote([,])changecom(,)dnl\n")],
-        frozen_text: Some(&[BEGIN, "Q1,1\n[]\nC0,0\n\n", NAMES, END]),
-        ..FRESH
-    },
-    Row {
-        name: "diversions that were begun out of order",
-        files: &[File("divert(2)two\ndivert(1)one\ndivert(2)dnl\n")],
-        frozen_text: Some(&[BEGIN, NAMES, "D1,4\none\n\nD2,4\ntwo\n\n", END]),
-        ..FRESH
-    },
-    Row {
-        name: "a negative current number",
-        files: &[File("divert(-1)junk\n")],
-        frozen_text: Some(&[BEGIN, NAMES, "D-1,0\n\n", END]),
-        ..FRESH
-    },
-    Row {
-        name: "a current number without text",
-        files: &[File("divert(3)dnl\n")],
-        frozen_text: Some(&[BEGIN, NAMES, "D3,0\n\n", END]),
-        ..FRESH
-    },
-    Row {
-        name: "a string without an end, at once",
-        files: &[File("`abc")],
-        messages: "m4:a.m4:1: ERROR: end of input in string\n",
-        end: (1, Cause::EndInString, false),
-        frozen_text: Some(&[]),
-        ..FRESH
-    },
-    Row {
-        name: "a string without an end",
-        files: &[File("x\n`abc")],
-        output: "x\n",
-        messages: "m4:a.m4:2: ERROR: end of input in string\n",
-        end: (1, Cause::EndInString, false),
-        frozen_text: Some(&[]),
-        ..FRESH
-    },
-];
+static SETTINGS: [Row; 8] = rows! {
+    "quotes that are changed, and no comments", "changequote([,])changecom(,)dnl\n" => "",
+        frozen_text: Some(&[BEGIN, "Q1,1\n[]\nC0,0\n\n", NAMES, END]);
+    "diversions that were begun out of order", "divert(2)two\ndivert(1)one\ndivert(2)dnl\n" => "",
+        frozen_text: Some(&[BEGIN, NAMES, "D1,4\none\n\nD2,4\ntwo\n\n", END]);
+    "a negative current number", "divert(-1)junk\n" => "",
+        frozen_text: Some(&[BEGIN, NAMES, "D-1,0\n\n", END]);
+    "a current number without text", "divert(3)dnl\n" => "",
+        frozen_text: Some(&[BEGIN, NAMES, "D3,0\n\n", END]);
+    "a stack and a diversion, of two files",
+        [File("define(`n',`1')dnl\n"), File("n pushdef(`n',`2')divert(1)n\n")] => "1 ",
+        frozen_text: Some(DIVERTED_TEXT);
+    "the same with messages", [File("define(`n',`1')errprint(`d')dnl\n"),
+        File("n pushdef(`n',`2')errprint(n)divert(1)n\n")] => "1 ", messages: "d2",
+        frozen_text: Some(DIVERTED_TEXT);
+    "a string without an end, at once", "`abc" => "",
+        messages: "m4:a.m4:1: ERROR: end of input in string\n", end: (1, Cause::EndInString, false),
+        frozen_text: Some(&[]);
+    "a string without an end", "x\n`abc" => "x\n", messages: "m4:a.m4:2: ERROR: end of input in string\n",
+        end: (1, Cause::EndInString, false), frozen_text: Some(&[]);
+};
 
 #[test]
 fn names_are_frozen(rt: HostRuntime) {

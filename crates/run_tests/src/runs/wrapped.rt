@@ -1,7 +1,8 @@
 //! Runs that save text for the end of the input, and runs that a macro ends. Manual: "Saving text until
 //! end of input", "Exiting from m4".
 
-use super::rows::{End, Row, compare};
+use super::given::End;
+use super::rows::{Row, compare};
 use super::whole_texts::FRESH_TEXT;
 use m4_engine::ending::Cause;
 

@@ -3,7 +3,6 @@
 ghost use Rattle.std.specs.Prelude.{◌≡◌};
 
 use super::following::add_made;
-use crate::runs::given::bytes;
 use crate::runs::shows::shows;
 use m4_state::bytes::Bytes;
 use m4_state::transfer::write_all;
@@ -17,6 +16,7 @@ use std::fs;
 use std::marker::Brand;
 use std::process::Abort;
 use std::rt::Files;
+use std::test::Fail;
 
 // The pieces that are written, and the file that is made.
 static ROWS: [(&[&[u8]], &str); 4] = [
@@ -48,14 +48,15 @@ fn after_late<W: World, K: LateStart>(world: W, name: Bytes, pieces: &[&[u8]]) -
 }
 
 #[test]
-fn late_files_are_made(rt: HostRuntime) {
+fn late_files_are_made(rt: HostRuntime) -> Result<(), Fail> {
     for &(pieces, made) in &ROWS {
         let world = MemWorld::new(rt.alloc(), &[], b"", true);
-        let after = after_pieces(world, bytes(&rt, b"late"), pieces);
+        let after = after_pieces(world, Bytes::from_slice(rt.alloc(), b"late")?, pieces);
         let mut report = Report::new(rt.alloc());
         add_made(&after, &mut report);
         shows(&rt, made, made.as_bytes(), report.text());
     }
+    Ok(())
 }
 
 // A file of the process, with a name that no other program uses.

@@ -7,155 +7,91 @@ use part_tests::report::Report;
 use std::alloc::{AllocError, Global};
 use std::process::Abort;
 
-// The words of a line, and the result: a mode with its file, or a refusal.
-static MODES: [(&[&str], &str); 22] = [
-    (&["m4r", "--canon=state.m4f"], "canon state.m4f"),
-    (&["m4r", "--inspect=state.m4f"], "inspect state.m4f"),
-    (&["m4r", "--canon", "state.m4f"], "canon state.m4f"),
-    (&["m4r", "--canon=-"], "canon -"),
-    (&["m4r", "--inspect=-"], "inspect -"),
-    (&["m4r", "--canon", "-"], "canon -"),
-    (&["m4r", "--canon="], "canon "),
-    (&["m4r", "--canon=--inspect=b"], "canon --inspect=b"),
-    (&["m4r", "--canon=a", "--inspect=b"], "a mode not alone"),
-    (&["m4r", "--inspect=b", "--canon=a"], "a mode not alone"),
-    (&["m4r", "--canon=a", "b"], "a mode not alone"),
-    (&["m4r", "--canon", "a", "b"], "a mode not alone"),
-    (&["m4r", "--inspect=a", "-"], "a mode not alone"),
-    (&["m4r", "--canon=a", "-L2"], "a mode not alone"),
-    (
-        &["m4r", "--expansions=9", "--inspect=a"],
-        "a mode not alone",
-    ),
-    (&["m4r", "--nope"], "refused: UnknownArgument"),
-    (
-        &["m4r", "--canon=a", "--inspect=b", "-X"],
-        "refused: UnknownArgument",
-    ),
-    (
-        &["m4r", "--canon=a", "--canon=a"],
-        "refused: ArgumentConflict",
-    ),
-    (&["m4r", "--canon"], "refused: InvalidValue"),
-    (&["m4r", "--help"], "refused: DisplayHelp"),
-    (&["m4r", "--canon=a", "--help"], "refused: DisplayHelp"),
-    (&["m4r", "-h"], "refused: UnknownArgument"),
-];
+// The words of a line, and the result.
+type Meaning = (&'static [&'static str], &'static str);
+
+// Expands to lines: of each its words after the name of the program, and the result.
+macro_rules! meanings {
+    ($([$($word:literal),*] => $meaning:literal;)*) => { [$((&["m4r" $(, $word)*], $meaning)),*] };
+}
+
+// The result is a mode with its file, or a refusal.
+static MODES: [Meaning; 22] = meanings! {
+    ["--canon=state.m4f"] => "canon state.m4f";
+    ["--inspect=state.m4f"] => "inspect state.m4f";
+    ["--canon", "state.m4f"] => "canon state.m4f";
+    ["--canon=-"] => "canon -";
+    ["--inspect=-"] => "inspect -";
+    ["--canon", "-"] => "canon -";
+    ["--canon="] => "canon ";
+    ["--canon=--inspect=b"] => "canon --inspect=b";
+    ["--canon=a", "--inspect=b"] => "a mode not alone";
+    ["--inspect=b", "--canon=a"] => "a mode not alone";
+    ["--canon=a", "b"] => "a mode not alone";
+    ["--canon", "a", "b"] => "a mode not alone";
+    ["--inspect=a", "-"] => "a mode not alone";
+    ["--canon=a", "-L2"] => "a mode not alone";
+    ["--expansions=9", "--inspect=a"] => "a mode not alone";
+    ["--nope"] => "refused: UnknownArgument";
+    ["--canon=a", "--inspect=b", "-X"] => "refused: UnknownArgument";
+    ["--canon=a", "--canon=a"] => "refused: ArgumentConflict";
+    ["--canon"] => "refused: InvalidValue";
+    ["--help"] => "refused: DisplayHelp";
+    ["--canon=a", "--help"] => "refused: DisplayHelp";
+    ["-h"] => "refused: UnknownArgument";
+};
 
 // The same for lines with a frozen file: the file to freeze to, the file to start from, and the files.
-static FROZEN: [(&[&str], &str); 20] = [
-    (
-        &["m4r", "-F", "s", "a.m4"],
-        "from None to Some(\"s\"), run [\"a.m4\"]",
-    ),
-    (
-        &["m4r", "-Fs", "a.m4"],
-        "from None to Some(\"s\"), run [\"a.m4\"]",
-    ),
-    (
-        &["m4r", "a.m4", "-F", "s"],
-        "from None to Some(\"s\"), run [\"a.m4\"]",
-    ),
-    (
-        &["m4r", "--freeze-state=s"],
-        "from None to Some(\"s\"), run []",
-    ),
-    (
-        &["m4r", "--freeze-state", "s"],
-        "from None to Some(\"s\"), run []",
-    ),
-    (&["m4r", "-F", "-"], "from None to Some(\"-\"), run []"),
-    (&["m4r", "-F-"], "from None to Some(\"-\"), run []"),
-    (
-        &["m4r", "--freeze-state="],
-        "from None to Some(\"\"), run []",
-    ),
-    (
-        &["m4r", "-R", "s", "b.m4"],
-        "from Some(\"s\") to None, run [\"b.m4\"]",
-    ),
-    (
-        &["m4r", "--reload-state=s"],
-        "from Some(\"s\") to None, run []",
-    ),
-    (
-        &["m4r", "-R", "-", "-"],
-        "from Some(\"-\") to None, run [\"-\"]",
-    ),
-    (
-        &["m4r", "-R", "s", "-F", "s"],
-        "from Some(\"s\") to Some(\"s\"), run []",
-    ),
-    (
-        &["m4r", "-F", "t", "a", "-R", "s"],
-        "from Some(\"s\") to Some(\"t\"), run [\"a\"]",
-    ),
-    (&["m4r", "-F", "s", "--canon=a"], "a mode not alone"),
-    (&["m4r", "--inspect=a", "-R", "s"], "a mode not alone"),
-    (&["m4r", "-F", "s", "-F", "s"], "refused: ArgumentConflict"),
-    (
-        &["m4r", "-R", "s", "--reload-state=t"],
-        "refused: ArgumentConflict",
-    ),
-    (&["m4r", "-F"], "refused: InvalidValue"),
-    (&["m4r", "a.m4", "-R"], "refused: InvalidValue"),
-    (&["m4r", "-f", "s"], "refused: UnknownArgument"),
-];
+static FROZEN: [Meaning; 20] = meanings! {
+    ["-F", "s", "a.m4"] => "from None to Some(\"s\"), run [\"a.m4\"]";
+    ["-Fs", "a.m4"] => "from None to Some(\"s\"), run [\"a.m4\"]";
+    ["a.m4", "-F", "s"] => "from None to Some(\"s\"), run [\"a.m4\"]";
+    ["--freeze-state=s"] => "from None to Some(\"s\"), run []";
+    ["--freeze-state", "s"] => "from None to Some(\"s\"), run []";
+    ["-F", "-"] => "from None to Some(\"-\"), run []";
+    ["-F-"] => "from None to Some(\"-\"), run []";
+    ["--freeze-state="] => "from None to Some(\"\"), run []";
+    ["-R", "s", "b.m4"] => "from Some(\"s\") to None, run [\"b.m4\"]";
+    ["--reload-state=s"] => "from Some(\"s\") to None, run []";
+    ["-R", "-", "-"] => "from Some(\"-\") to None, run [\"-\"]";
+    ["-R", "s", "-F", "s"] => "from Some(\"s\") to Some(\"s\"), run []";
+    ["-F", "t", "a", "-R", "s"] => "from Some(\"s\") to Some(\"t\"), run [\"a\"]";
+    ["-F", "s", "--canon=a"] => "a mode not alone";
+    ["--inspect=a", "-R", "s"] => "a mode not alone";
+    ["-F", "s", "-F", "s"] => "refused: ArgumentConflict";
+    ["-R", "s", "--reload-state=t"] => "refused: ArgumentConflict";
+    ["-F"] => "refused: InvalidValue";
+    ["a.m4", "-R"] => "refused: InvalidValue";
+    ["-f", "s"] => "refused: UnknownArgument";
+};
 
 // The same for lines with no mode: a run with its limits, of open calls and of all calls, and its files.
-static RUNS: [(&[&str], &str); 24] = [
-    (&["m4r"], "run 1024 4294967295 []"),
-    (&["m4r", "a.m4"], "run 1024 4294967295 [\"a.m4\"]"),
-    (&["m4r", "-"], "run 1024 4294967295 [\"-\"]"),
-    (
-        &["m4r", "b.m4", "-", "a.m4", "b.m4"],
-        "run 1024 4294967295 [\"b.m4\", \"-\", \"a.m4\", \"b.m4\"]",
-    ),
-    (
-        &["m4r", "--", "-L", "2"],
-        "run 1024 4294967295 [\"-L\", \"2\"]",
-    ),
-    (&["m4r", "-L", "0"], "run 0 4294967295 []"),
-    (&["m4r", "-L2"], "run 2 4294967295 []"),
-    (&["m4r", "--nesting-limit=3"], "run 3 4294967295 []"),
-    (&["m4r", "--nesting-limit", "3"], "run 3 4294967295 []"),
-    (&["m4r", "-L", "4294967295"], "run 4294967295 4294967295 []"),
-    (
-        &["m4r", "a", "-L", "7", "b"],
-        "run 7 4294967295 [\"a\", \"b\"]",
-    ),
-    (&["m4r", "--expansions=1"], "run 1024 1 []"),
-    (
-        &["m4r", "--expansions=4294967295"],
-        "run 1024 4294967295 []",
-    ),
-    (
-        &["m4r", "--expansions=100", "-L5", "a"],
-        "run 5 100 [\"a\"]",
-    ),
-    (&["m4r", "--expansions=0"], "refused: ValueValidation"),
-    (
-        &["m4r", "--expansions=4294967296"],
-        "refused: ValueValidation",
-    ),
-    (&["m4r", "-L", "4294967296"], "refused: ValueValidation"),
-    (
-        &["m4r", "-L", "18446744073709551616"],
-        "refused: ValueValidation",
-    ),
-    (&["m4r", "-L", "two"], "refused: ValueValidation"),
-    (&["m4r", "-L="], "refused: ValueValidation"),
-    (&["m4r", "-L"], "refused: InvalidValue"),
-    (&["m4r", "-L", "1", "-L", "1"], "refused: ArgumentConflict"),
-    (
-        &["m4r", "-L1", "--nesting-limit=1"],
-        "refused: ArgumentConflict",
-    ),
-    (
-        &["m4r", "--expansions=1", "--expansions=1"],
-        "refused: ArgumentConflict",
-    ),
-];
+static RUNS: [Meaning; 24] = meanings! {
+    [] => "run 1024 4294967295 []";
+    ["a.m4"] => "run 1024 4294967295 [\"a.m4\"]";
+    ["-"] => "run 1024 4294967295 [\"-\"]";
+    ["b.m4", "-", "a.m4", "b.m4"] => "run 1024 4294967295 [\"b.m4\", \"-\", \"a.m4\", \"b.m4\"]";
+    ["--", "-L", "2"] => "run 1024 4294967295 [\"-L\", \"2\"]";
+    ["-L", "0"] => "run 0 4294967295 []";
+    ["-L2"] => "run 2 4294967295 []";
+    ["--nesting-limit=3"] => "run 3 4294967295 []";
+    ["--nesting-limit", "3"] => "run 3 4294967295 []";
+    ["-L", "4294967295"] => "run 4294967295 4294967295 []";
+    ["a", "-L", "7", "b"] => "run 7 4294967295 [\"a\", \"b\"]";
+    ["--expansions=1"] => "run 1024 1 []";
+    ["--expansions=4294967295"] => "run 1024 4294967295 []";
+    ["--expansions=100", "-L5", "a"] => "run 5 100 [\"a\"]";
+    ["--expansions=0"] => "refused: ValueValidation";
+    ["--expansions=4294967296"] => "refused: ValueValidation";
+    ["-L", "4294967296"] => "refused: ValueValidation";
+    ["-L", "18446744073709551616"] => "refused: ValueValidation";
+    ["-L", "two"] => "refused: ValueValidation";
+    ["-L="] => "refused: ValueValidation";
+    ["-L"] => "refused: InvalidValue";
+    ["-L", "1", "-L", "1"] => "refused: ArgumentConflict";
+    ["-L1", "--nesting-limit=1"] => "refused: ArgumentConflict";
+    ["--expansions=1", "--expansions=1"] => "refused: ArgumentConflict";
+};
 
 // Adds the result for a line, as the tables write it.
 fn add_answer(line: &Result<Line, LineFault>, report: &mut Report) {
@@ -237,7 +173,7 @@ fn check_row(rt: &(impl Abort + Alloc<A = Global>), words: &[&str], want: &str) 
 }
 
 // Compares the result for each line with its row.
-fn check(rt: &(impl Abort + Alloc<A = Global>), rows: &[(&'static [&'static str], &'static str)]) {
+fn check(rt: &(impl Abort + Alloc<A = Global>), rows: &[Meaning]) {
     for &(words, want) in rows {
         check_row(rt, words, want);
     }

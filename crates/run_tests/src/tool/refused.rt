@@ -3,85 +3,53 @@
 //! The devices are made first; where that is refused, the mode is passed over. `tests/program/refused_growths` refuses
 //! each request in turn.
 
-use m4_state::memory::{MemSink, MemSource};
+use super::following::WHOLE;
+use super::modes::{CANON, Left, Row, left_by};
+use m4_state::memory::MemSink;
 use m4_tool::follow::follow;
 use m4_tool::given::Given;
 use m4_tool::line::{Line, LineFault, read_line};
 use m4_tool::mem_world::MemWorld;
-use m4_tool::modes::{Mode, canon, inspect};
-use std::alloc::Global;
+use m4_tool::modes::Mode;
+use std::alloc::{AllocError, Global};
 use std::process::Abort;
 
-const FILE: &[u8] = b"V1\nT1,1\nab\nF3,5\ncutshift\nD2,4\ntwo\n\n";
+const CANONICAL: Row = Row {
+    file: b"V1\nT1,1\nab\nF3,5\ncutshift\nD2,4\ntwo\n\n",
+    output: "# m4 frozen state\nV1\nT1,1\nab\nF3,5\ncutshift\nD2,4\ntwo\n\n# End of frozen state file\n",
+    ..CANON
+};
 
-const CANONICAL: &[u8] =
-    b"# m4 frozen state\nV1\nT1,1\nab\nF3,5\ncutshift\nD2,4\ntwo\n\n# End of frozen state file\n";
-
-const LISTED: &[u8] =
-    b"quotes ` '\ncomments # \\0a\ntext a 1\nbuiltin cut shift\ndiversion 2 4\ncurrent 2\n";
+const LISTED: Row = Row {
+    mode: Mode::Inspect,
+    output: "quotes ` '\ncomments # \\0a\ntext a 1\nbuiltin cut shift\ndiversion 2 4\ncurrent 2\n",
+    ..CANONICAL
+};
 
 /// The lines where the file is loaded, and where it is written.
 const LOADING: &[u8] = b"m4: F: F11 OutOfMemory\n";
 
 const WRITING: &[u8] = b"m4: out of memory\n";
 
-/// How much room a writer has.
-const ROOM: usize = 256;
+/// How many bytes a writer accepts at a time.
+const AT_MOST: usize = 7;
 
-/// The writers of a mode, and its status.
-struct Left {
-    output: MemSink,
-    messages: MemSink,
-    status: u8,
-}
-
-// Written out so that a caller's proof contains one call, not the drop of each field.
-impl Drop for Left {
-    fn drop(self) {
-        let Left {
-            output: _output,
-            messages: _messages,
-            status: _status,
-        } = self;
-    }
-}
-
-/// Runs a mode over the file; none if its devices could not be made.
-fn left_by(alloc: Global, mode: Mode) -> Option<Left> {
-    let mut reader = MemSource::new(FILE, 4096, false);
-    let mut output = MemSink::new(alloc, ROOM, 7).ok()?;
-    let mut messages = MemSink::new(alloc, ROOM, 7).ok()?;
-    let status = match mode {
-        Mode::Canon => canon(alloc, b"F", &mut reader, &mut output, &mut messages),
-        Mode::Inspect => inspect(alloc, b"F", &mut reader, &mut output, &mut messages),
-    };
-    Some(Left {
-        output,
-        messages,
-        status,
-    })
-}
-
-/// Returns whether a mode wrote its text, and nothing else.
-fn is_whole(left: &Left, text: &[u8]) -> bool {
-    left.status == 0 && left.output.written() == text && left.messages.written().is_empty()
-}
-
-/// Returns whether a mode wrote nothing but the line on want of memory.
-fn broke_off(left: &Left) -> bool {
-    let line = left.messages.written();
-    let said = line == LOADING || line == WRITING;
-    left.status == 1 && said && left.output.written().is_empty()
-}
-
-/// Runs a mode, and prints whether it broke off.
-fn try_mode(rt: &(impl Abort + Alloc<A = Global> + Print), mode: Mode, text: &[u8]) {
+/// Prints whether a mode or a line broke off; none does whose devices could not be made. It then leaves a beginning of
+/// this part of its output, and a line on want of memory; otherwise it leaves its output alone.
+fn tell(
+    rt: &(impl Abort + Alloc<A = Global> + Print),
+    left: Result<Left, AllocError>,
+    output: &[u8],
+    part: &[u8],
+) {
     let mut broken = 0;
-    if let Some(left) = left_by(rt.alloc(), mode) {
-        if !is_whole(&left, text) {
+    if let Ok(left) = left {
+        let (written, line) = (left.output.written(), left.messages.written());
+        if left.status != 0 || written != output || !line.is_empty() {
+            let said = line == WRITING || (part.is_empty() && line == LOADING);
             assert!(rt;
-                broke_off(&left),
-                "the mode is not as it is and did not break off"
+                left.status == 1 && said && part.starts_with(written),
+                "neither its output nor what it leaves where it breaks off"
             );
             broken = 1;
         }
@@ -91,63 +59,44 @@ fn try_mode(rt: &(impl Abort + Alloc<A = Global> + Print), mode: Mode, text: &[u
 
 #[test]
 fn canonical_text(rt: HostRuntime) {
-    try_mode(&rt, Mode::Canon, CANONICAL);
+    let left = left_by(rt.alloc(), &CANONICAL, AT_MOST);
+    tell(&rt, left, CANONICAL.output.as_bytes(), b"");
 }
 
 #[test]
 fn listing(rt: HostRuntime) {
-    try_mode(&rt, Mode::Inspect, LISTED);
+    let left = left_by(rt.alloc(), &LISTED, AT_MOST);
+    tell(&rt, left, LISTED.output.as_bytes(), b"");
 }
 
 /// The files of a line, and what it writes.
-const FILES: [Given<'static>; 2] = [
-    Given {
-        name: b"library",
-        bytes: b"define(`greeting_of_more_than_thirty_letters',`Hello, $1, and all who read along!')dnl\n",
-        fails: false,
-    },
-    Given {
-        name: b"page",
-        bytes: b"greeting_of_more_than_thirty_letters(`world')\n",
-        fails: false,
-    },
-];
+static FILES: [Given<'static>; 2] = world! {
+    b"library" =>
+        b"define(`greeting_of_more_than_thirty_letters',`Hello, $1, and all who read along!')dnl\n";
+    b"page" => b"greeting_of_more_than_thirty_letters(`world')\n";
+};
 
 const GREETING: &[u8] = b"Hello, world, and all who read along!\n";
 
-/// Follows a line; none if it could not be read, or its writers could not be made.
-fn left_by_line(alloc: Global) -> Option<Left> {
-    let line = read_line(alloc, &["m4r", "library", "page"]).ok()?;
+/// Follows a line. If it can't be read, that is for want of memory.
+fn left_by_line(alloc: Global) -> Result<Left, AllocError> {
+    let Ok(line) = read_line(alloc, &["m4r", "library", "page"]) else {
+        return Err(AllocError);
+    };
     let world = MemWorld::new(alloc, &FILES, b"", false);
-    let mut output = MemSink::new(alloc, ROOM, 7).ok()?;
-    let mut messages = MemSink::new(alloc, ROOM, 7).ok()?;
+    let mut output = MemSink::new(alloc, 256, AT_MOST)?;
+    let mut messages = MemSink::new(alloc, 256, AT_MOST)?;
     let end = follow(alloc, &line, world, &mut output, &mut messages);
-    Some(Left {
+    Ok(Left {
         output,
         messages,
         status: end.status,
     })
 }
 
-/// Returns whether a line wrote a beginning of its output, and the line on want of memory.
-fn line_broke_off(left: &Left) -> bool {
-    let begins = GREETING.starts_with(left.output.written());
-    left.status == 1 && begins && left.messages.written() == WRITING
-}
-
 #[test]
 fn line_that_is_followed(rt: HostRuntime) {
-    let mut broken = 0;
-    if let Some(left) = left_by_line(rt.alloc()) {
-        if !is_whole(&left, GREETING) {
-            assert!(rt;
-                line_broke_off(&left),
-                "the line is not as it is and did not break off"
-            );
-            broken = 1;
-        }
-    }
-    let _printed = println!(rt; "{broken} broke off");
+    tell(&rt, left_by_line(rt.alloc()), GREETING, GREETING);
 }
 
 /// Returns whether a line is that of its words.

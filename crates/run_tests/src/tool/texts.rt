@@ -5,53 +5,23 @@ use m4_tool::line::{LineFault, read_line};
 use std::alloc::{AllocError, Global};
 use std::process::Abort;
 
-// The words of a line, whether they are a mistake, and parts of the text.
-static TEXTS: [(&[&str], bool, &[&str]); 7] = [
-    (
-        &["m4r", "--help"],
-        false,
-        &[
-            "--canon <FILE>",
-            "--inspect <FILE>",
-            "-F, --freeze-state <FILE>",
-            "-R, --reload-state <FILE>",
-            "-L, --nesting-limit <N>",
-            "--expansions <N>",
-            "Exit status:",
-            "Examples:",
-        ],
-    ),
-    (
-        &["m4r", "--nope"],
-        true,
-        &["unexpected argument '--nope'", "m4r --canon=FILE"],
-    ),
-    (
-        &["m4r", "--canon=a", "--canon=b"],
-        true,
-        &["'--canon <FILE>' cannot be used multiple times"],
-    ),
-    (
-        &["m4r", "--canon"],
-        true,
-        &["a value is required for '--canon <FILE>'"],
-    ),
-    (
-        &["m4r", "-R"],
-        true,
-        &["a value is required for '--reload-state <FILE>'"],
-    ),
-    (
-        &["m4r", "--expansions=0"],
-        true,
-        &["invalid value '0' for '--expansions <N>'", "1..=4294967295"],
-    ),
-    (
-        &["m4r", "-L4294967296"],
-        true,
-        &["invalid value '4294967296' for '--nesting-limit <N>'"],
-    ),
-];
+// Expands to lines: of each its words after the name of the program, whether they are a mistake, and parts of the text.
+macro_rules! texts {
+    ($([$($word:literal),*], $is_mistake:literal => [$($part:literal),*];)*) => {
+        [$((&["m4r" $(, $word)*], $is_mistake, &[$($part),*])),*]
+    };
+}
+
+static TEXTS: [(&[&str], bool, &[&str]); 7] = texts! {
+    ["--help"], false => ["--canon <FILE>", "--inspect <FILE>", "-F, --freeze-state <FILE>",
+        "-R, --reload-state <FILE>", "-L, --nesting-limit <N>", "--expansions <N>", "Exit status:", "Examples:"];
+    ["--nope"], true => ["unexpected argument '--nope'", "m4r --canon=FILE"];
+    ["--canon=a", "--canon=b"], true => ["'--canon <FILE>' cannot be used multiple times"];
+    ["--canon"], true => ["a value is required for '--canon <FILE>'"];
+    ["-R"], true => ["a value is required for '--reload-state <FILE>'"];
+    ["--expansions=0"], true => ["invalid value '0' for '--expansions <N>'", "1..=4294967295"];
+    ["-L4294967296"], true => ["invalid value '4294967296' for '--nesting-limit <N>'"];
+};
 
 // Checks that a text contains the parts.
 fn check_parts(rt: &impl Abort, text: &str, parts: &[&str]) {
