@@ -4,7 +4,7 @@
 #
 # Needs ./m4r, or the program that M4R names.
 suite=$1
-program=$(realpath "${M4R:-../../m4r}")
+program=$(realpath "${M4R:-$(dirname "${BASH_SOURCE[0]}")/../m4r}")
 scratch=$(mktemp -d)
 trap 'rm -rf "$scratch"' EXIT
 failed=0
