@@ -1,6 +1,6 @@
 //! Byte strings as the keys of a table.
 //!
-//! A name is hashed by pieces of eight or four bytes that overlap, and not byte by byte.
+//! A name is hashed by pieces of eight bytes that overlap, and not byte by byte.
 
 ghost use Rattle.std.specs.Prelude.{◌≡◌, nat_eq};
 ghost use Rattle.std.specs.List.{fold};
@@ -10,7 +10,6 @@ ghost use Rattle.std.proofs.Common.{ap};
 ghost use Rattle.m4_state.specs.NameHash.{pieces};
 
 use crate::bytes::Bytes;
-use crate::words::are_equal;
 use indexmap::Equivalent;
 use std::hash::{Hash, Hasher};
 
@@ -26,7 +25,7 @@ impl PartialEq for Bytes {
     ghost laws = { partial_equiv_from_equiv nat_list_eq_equiv };
 
     fn eq(&self, other: &Bytes) -> bool {
-        are_equal(self.as_slice(), other.as_slice())
+        self.as_slice() == other.as_slice()
     }
 }
 
@@ -39,9 +38,6 @@ impl Eq for Bytes {
 /// Of 16 bytes that are written at once the hasher multiplies the two halves. If a half meets the hasher's state, the
 /// product is 0 whatever the other is, and names that differ there collide. So no more than 8 bytes are written at
 /// once, and a byte in the middle is in two pieces: a piece that makes up for one difference makes another.
-///
-/// Each piece has a fixed length, so that to write it is a load and no call. A name of fewer than four bytes is one piece
-/// of four, with its length.
 #[inline(always)]
 fn feed<H: Hasher>(name: &[u8], state: &mut H)
     ensures { state.new ≡ fold H.write state.old (pieces name.now) }
@@ -52,18 +48,11 @@ fn feed<H: Hasher>(name: &[u8], state: &mut H)
         rest = &rest[STEP..];
     }
     if rest.len() > PIECE {
+        // The last piece has a fixed length too, so that it is one load.
         state.write(&rest[..PIECE]);
         state.write(&rest[rest.len() - PIECE..]);
-    } else if rest.len() >= STEP {
-        state.write(&rest[..STEP]);
-        state.write(&rest[rest.len() - STEP..]);
     } else {
-        match rest {
-            [a] => state.write(&[*a, *a, *a, 1]),
-            [a, b] => state.write(&[*a, *b, *b, 2]),
-            [a, b, c] => state.write(&[*a, *b, *c, 3]),
-            _ => state.write(&[]),
-        }
+        state.write(rest);
     }
 }
 
@@ -87,7 +76,7 @@ impl PartialEq for Sought<'_> {
     ghost laws = { on_per (λ x. x.0.now) (partial_equiv_from_equiv nat_list_eq_equiv) };
 
     fn eq(&self, other: &Self) -> bool {
-        are_equal(self.0, other.0)
+        self.0 == other.0
     }
 }
 
@@ -113,6 +102,6 @@ impl Equivalent<Bytes> for Sought<'_> {
     ghost respects_eq = { λ sought x y. nat_list_eq_equiv.congr sought.0.now x y };
 
     fn equivalent(&self, key: &Bytes) -> bool {
-        are_equal(self.0, key.as_slice())
+        self.0 == key.as_slice()
     }
 }
