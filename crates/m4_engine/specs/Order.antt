@@ -1,10 +1,10 @@
 -- Order: output and messages are written in the order in which the run makes them.
 -- Believed. Manual: "How m4 copies input to output", "Command line files", "Saving text until end of input".
--- Words: IsBeginning, Shows, IsBetween, IsStepOf, InSources, IsTurnOfRound, InRounds, InSomeRound, InEnd, IsStepOfRun, InOrder, InOrderBy,
--- preceded, Breaks, BreaksBy, FileBreaks.
--- A run is made of steps: the turns of its expansions, and the messages on sources that can't be opened. Where a
--- writer or an allocation fails, one step shows what was written: a step makes its messages before its output, and
--- nothing was written before what was made earlier.
+-- Words: IsBeginning, Shows, IsBetween, IsStepOf, InSources, IsTurnOfRound, InRounds, InSomeRound, InEnd, IsStepOfRun,
+-- InOrder, InOrderBy, preceded, Breaks, BreaksBy, FileBreaks.
+-- A run is made of steps: the turns of its expansions, the messages on sources that can't be opened, and at its end the
+-- texts of the diversions. Where a writer or an allocation fails, one step shows what was written: a step makes its
+-- messages before its output, and nothing was written before what was made earlier.
 use Rattle.std.specs.Prelude.{◌≡◌, ◌≢◌, ◌⊎◌, ℕ, zero, suc, false, List, [], ◌∷◌, ◌++◌, Option, None, Result, Err}
 use Rattle.m4_state.specs.Device.{Script, with_bytes, HasBegun}
 use Rattle.m4_engine.specs.declared.ending.Cause.{Cause}
@@ -28,8 +28,8 @@ abbrev pub IsBeginning : List ℕ → List ℕ → Type 0
 IsBeginning x y = (rest : List ℕ) × (y ≡ x ++ rest)
 
 -- a step shows that the output o and the messages m were written: a beginning of the output made before it, and the
--- messages made before it; or all of that output, and some of the step's messages; or all messages made when it is over,
--- and some of the step's output
+-- messages made before it; or all of that output, and some of the step's messages; or all messages made when it is
+-- over, and some of the step's output
 abbrev pub Shows : RunSoFar → RunSoFar → List ℕ → List ℕ → Type 0
 Shows before later o m =
     (IsBeginning o before.output × (m ≡ before.messages))

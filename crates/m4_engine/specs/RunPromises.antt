@@ -66,8 +66,8 @@ pub record IsRun {R Z : Type 0} (script : R → Option Script) (failures : R →
   -- settle is written before further bytes are asked for
   pub one_pass : (file : Option Script) → DescribesFrozen script c.file_old file
       → OnePass script c.sources_old c.sources_new c.options (start_of (c.options).prefix file) e.cause (c.contents).two
-  -- in order: where a writer or an allocation breaks the run off, output and messages were written in the order in which
-  -- the run makes them
+  -- in order: where a writer or an allocation breaks the run off, output and messages were written in the order in
+  -- which the run makes them
   pub order : ForInputs script c (λ file ss. InOrderBy e.cause c.options (start_of (c.options).prefix file) ss
       (c.contents).two)
   -- faults leave beginnings: if a frozen file is refused, no source is read and nothing is written
