@@ -12,7 +12,8 @@ use Rattle.m4_state.specs.declared.definition.Def.{Def}
 use Rattle.m4_state.specs.declared.definition.Def.TheVariants as defs
 use Rattle.m4_state.specs.declared.delimiters.Delimiters.{Delimiters}
 use Rattle.m4_state.specs.Definition.{IsDefinition}
-use Rattle.m4_state.specs.Builtin.{takes_tokens, least_of, builtin_named}
+use Rattle.m4_state.specs.Builtin.{builtin_named}
+use Rattle.m4_state.specs.Columns.{takes_tokens, least_of}
 use Rattle.m4_state.specs.State.{State, top_of, popped, undefined, undiverted, IsState}
 use Rattle.m4_state.proofs.StaysInOrder.{IsState-defined, IsState-pushed, IsState-popped, IsState-undefined}
 use Rattle.m4_state.proofs.StaysInOrder.{IsState-with_quotes, IsState-with_comments, IsState-default_quotes}
@@ -28,20 +29,21 @@ use Rattle.m4_builtins.specs.declared.effect.Effect.{Effect}
 use Rattle.m4_builtins.specs.declared.number.Reading.{Reading}
 use Rattle.m4_builtins.specs.declared.number.Reading.TheVariants.{Number, Empty, NotNumeric}
 use Rattle.m4_builtins.specs.declared.place.Place.{Place}
-use Rattle.m4_builtins.specs.Args.{IsArg, text_of_arg, texts_of, definition_of_arg, text_at}
+use Rattle.m4_builtins.specs.Args.{IsArg, text_of_arg, texts_of, text_at}
 use Rattle.m4_builtins.specs.Acted.{Acted, IsPushed, expands, warning_first}
 use Rattle.m4_builtins.specs.Numeric.{reading_of, number_of_reading, with_number}
 use Rattle.m4_builtins.specs.Naming.{define, pushdef, for_each, definition_in, definition_given, defn}
 use Rattle.m4_builtins.specs.Branching.{ifelse}
 use Rattle.m4_builtins.specs.Delimiting.{changequote}
-use Rattle.m4_builtins.specs.Diverting.{divert, diverted_if, undivert, brought_back, held_numbers, readings_of}
+use Rattle.m4_builtins.specs.Diverting.{divert, undivert, brought_back, held_numbers, readings_of}
 use Rattle.m4_builtins.specs.Arithmetic.{incr, decr}
 use Rattle.m4_builtins.specs.Texts.{substr}
 use Rattle.m4_builtins.specs.Messages.{bad_status, empty_number}
-use Rattle.m4_builtins.specs.Ending.{exits, exits_by, exits_reading, m4exit}
-use Rattle.m4_builtins.specs.Eval.{if_radix, with_radix, if_width, with_width, if_value, with_value, eval}
-use Rattle.m4_builtins.specs.Indirect.{Inner, called_by_name, indir, done_by_name, builtin}
-use Rattle.m4_builtins.specs.Act.{row, taken, given_though_few, act_unless, act_with, goes_on, act}
+use Rattle.m4_builtins.specs.Ending.{exits, exits_reading, m4exit}
+use Rattle.m4_builtins.specs.Eval.{with_radix, with_width, if_value, with_expression, eval}
+use Rattle.m4_builtins.specs.Indirect.{Inner, indir, builtin}
+use Rattle.m4_builtins.specs.Act.{row, given_though_few, act_with, goes_on, act}
+use Rattle.m4_builtins.proofs.Cases.{taken, act_unless, called_by_name, done_by_name, diverted_if, if_radix, if_width}
 use Rattle.m4_builtins.proofs.NumbersFit.{IsReading, reading_fits}
 
 -- what a call makes is in order
@@ -53,13 +55,10 @@ pub record IsActed (r : Acted) : Type 0 where
 abbrev IsInner : Inner → Type 0
 IsInner inner = (d : Def) (name : List ℕ) → IsActed (inner d name)
 
-definition_valid : (a : Arg) → IsArg a → IsDefinition (definition_of_arg a)
-definition_valid (args.Text x) h = tt
-definition_valid (args.Definition d) h = h
-
 pub second_valid : (rest : List Arg) → AllByRecursion IsArg rest → IsDefinition (definition_in rest)
 second_valid [] h = tt
-second_valid (a ∷ rest) h = definition_valid a h.0
+second_valid (args.Text x ∷ rest) h = tt
+second_valid (args.Definition d ∷ rest) h = h.0
 
 taken_valid : (b : Bool) (list : List Arg) → AllByRecursion IsArg list → AllByRecursion IsArg (taken b list)
 taken_valid true list h = h
@@ -150,7 +149,7 @@ module _ (p : Place) where
   with_width_is None does each = each 0
   with_width_is (Some x) does each = number_is Eval (reading_of x) _ (λ n. width_is does n each)
 
-  with_value_is : (x : List ℕ) (does : ℤ → Effect) → ((n : ℤ) → IsPushed (does n).push) → IsPushed (with_value p x does).push
+  with_value_is : (x : List ℕ) (does : ℤ → Effect) → ((n : ℤ) → IsPushed (does n).push) → IsPushed (with_expression p x does).push
   with_value_is x does each = by (list_all is_space x)
     where
       by : (b : Bool) → IsPushed (if b then warning_first (empty_number p Eval) (does (pos 0)) else if_value p does (evaluated x)).push
@@ -160,22 +159,19 @@ module _ (p : Place) where
   eval_is : (list : List Arg) → IsPushed (eval list p).push
   eval_is list =
       let written : ℕ → ℕ → ℤ → Effect = λ radix width n. expands (in_radix radix width n) in
-      let after_width : ℕ → ℕ → Effect = λ radix width. with_value p (text_at list 0) (written radix width) in
+      let after_width : ℕ → ℕ → Effect = λ radix width. with_expression p (text_at list 0) (written radix width) in
       let after_radix : ℕ → Effect = λ radix. with_width p (slice_get (texts_of list) 2) (after_width radix) in
       with_radix_is (text_at list 1) after_radix
       (λ radix. with_width_is (slice_get (texts_of list) 2) (after_width radix)
       (λ width. with_value_is (text_at list 0) (written radix width) (λ n. tt)))
 
-  exits_by_is : (n : ℤ) → IsPushed (exits_by n p).push
-  exits_by_is (pos n) = by (nat_le n 255)
+  exits_reading_is : (r : Reading) → IsPushed (exits_reading r p).push
+  exits_reading_is (Number (pos n)) = by (nat_le n 255)
     where
       by : (b : Bool) → IsPushed (if b then exits n else warning_first (bad_status p) (exits 1)).push
       by true = tt
       by false = tt
-  exits_by_is (negsuc n) = tt
-
-  exits_reading_is : (r : Reading) → IsPushed (exits_reading r p).push
-  exits_reading_is (Number n) = exits_by_is n
+  exits_reading_is (Number (negsuc n)) = tt
   exits_reading_is Empty = tt
   exits_reading_is NotNumeric = tt
 

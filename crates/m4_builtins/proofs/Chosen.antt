@@ -6,10 +6,10 @@ use Rattle.std.specs.Str.{bytes_eq}
 use Rattle.std.proofs.lemmas.List.{take_all}
 use Rattle.m4_builtins.specs.declared.args.Arg.{Arg}
 use Rattle.m4_builtins.specs.Args.{text_of_arg, texts_of}
-use Rattle.m4_builtins.specs.Branching.{chosen}
+use Rattle.m4_builtins.specs.Branching.{chosen_text}
 
 -- fewer than three choose nothing
-pub chosen_short : (list : List Arg) → length list < 3 → chosen (texts_of list) ≡ []
+pub chosen_short : (list : List Arg) → length list < 3 → chosen_text (texts_of list) ≡ []
 chosen_short [] lt = refl
 chosen_short (x ∷ []) lt = refl
 chosen_short (x ∷ y ∷ []) lt = refl
@@ -22,7 +22,7 @@ after_third list = take_all (length list - 3) (drop 3 list) (omega (arith, lengt
 -- where the first two differ, and three or more come after the third, these choose
 chosen_on : (list others : List Arg) (x y : Arg) → others ≡ drop 3 list → 3 ≤ length others → x ≡ get_or list 0 x
     → y ≡ get_or list 1 y → bytes_eq (text_of_arg x) (text_of_arg y) ≡ false
-    → chosen (texts_of others) ≡ chosen (texts_of list)
+    → chosen_text (texts_of others) ≡ chosen_text (texts_of list)
 chosen_on [] [] x y is le e f differ = refl
 chosen_on [] (o ∷ others) x y is le e f differ = absurd cc
 chosen_on (a ∷ []) others x y is le e f differ = let none = ap (λ (xs : List Arg). length xs) is in absurd (omega (arith, none))
@@ -32,10 +32,10 @@ chosen_on (a ∷ b ∷ c ∷ u ∷ []) others x y is le e f differ = let one = a
 chosen_on (a ∷ b ∷ c ∷ u ∷ v ∷ []) others x y is le e f differ = let two = ap (λ (xs : List Arg). length xs) is in absurd (omega (arith, two))
 chosen_on (a ∷ b ∷ c ∷ u ∷ v ∷ w ∷ rest) others x y is le e f differ =
     let apart : bytes_eq (text_of_arg a) (text_of_arg b) ≡ false = (λ i. bytes_eq (text_of_arg (sym e i)) (text_of_arg (sym f i))) ∙ differ in
-    ap (λ (xs : List Arg). chosen (texts_of xs)) is
-    ∙ ap (λ (t : Bool). if t then text_of_arg c else chosen (texts_of (u ∷ v ∷ w ∷ rest))) (sym apart)
+    ap (λ (xs : List Arg). chosen_text (texts_of xs)) is
+    ∙ ap (λ (t : Bool). if t then text_of_arg c else chosen_text (texts_of (u ∷ v ∷ w ∷ rest))) (sym apart)
 
 pub chosen_later : (list : List Arg) (x y : Arg) → 3 ≤ length (take (length list - 3) (drop 3 list))
     → x ≡ get_or list 0 x → y ≡ get_or list 1 y → bytes_eq (text_of_arg x) (text_of_arg y) ≡ false
-    → chosen (texts_of (take (length list - 3) (drop 3 list))) ≡ chosen (texts_of list)
+    → chosen_text (texts_of (take (length list - 3) (drop 3 list))) ≡ chosen_text (texts_of list)
 chosen_later list x y le e f differ = chosen_on list (take (length list - 3) (drop 3 list)) x y (after_third list) le e f differ

@@ -10,10 +10,11 @@ use Rattle.m4_builtins.specs.declared.args.Arg.{Arg}
 use Rattle.m4_builtins.specs.declared.effect.Effect.{Effect}
 use Rattle.m4_builtins.specs.declared.place.Place.{Place}
 use Rattle.m4_builtins.specs.Args.{text_of_arg, texts_of, text_at}
-use Rattle.m4_builtins.specs.Eval.{if_radix, with_radix, with_width, with_value, with_digits}
+use Rattle.m4_builtins.specs.Eval.{with_radix, with_width, with_expression, with_digits}
 use Rattle.m4_builtins.specs.Messages.{out_of_range}
 use Rattle.m4_builtins.specs.Numeric.{reading_of, number_of_reading, reading_warning, with_number}
 use Rattle.m4_builtins.specs.ReadsAs.{ReadsAs}
+use Rattle.m4_builtins.proofs.Cases.{if_radix}
 use Rattle.m4_builtins.proofs.ReadsOn.{reads_at_once, reads_wrong, reads_no_more, reads_on, reads_number}
 
 -- the third argument as text, by what the look-up says of it
@@ -63,7 +64,7 @@ module _ (p : Place) where
   module _ (list : List Arg) where
     -- what is read after the radix, and after the width
     abbrev value_after : ℕ → ℕ → (List ℕ → Effect) → Effect
-    value_after radix width does = with_value p (text_at list 0) (λ n. does (in_radix radix width n))
+    value_after radix width does = with_expression p (text_at list 0) (λ n. does (in_radix radix width n))
 
     abbrev width_after : ℕ → (List ℕ → Effect) → Effect
     width_after radix does = with_width p (slice_get (texts_of list) 2) (λ width. value_after radix width does)
@@ -75,15 +76,15 @@ module _ (p : Place) where
         (reads_no_more (with_width p (slice_get (texts_of list) 2)) (value_after radix) between now w)
 
     value_then : (radix width : ℕ) (o : Option ℤ) (before now : List ℕ)
-        → ReadsAs (with_value p (text_at list 0)) o before now
+        → ReadsAs (with_expression p (text_at list 0)) o before now
         → ReadsAs (value_after radix width) (option_map (in_radix radix width) o) before now
-    value_then radix width None before now v = reads_no_more (with_value p (text_at list 0)) (λ n does. does (in_radix radix width n)) before now v
+    value_then radix width None before now v = reads_no_more (with_expression p (text_at list 0)) (λ n does. does (in_radix radix width n)) before now v
     value_then radix width (Some n) before now v =
-        reads_on (with_value p (text_at list 0)) (λ m does. does (in_radix radix width m)) n
+        reads_on (with_expression p (text_at list 0)) (λ m does. does (in_radix radix width m)) n
         (Some (in_radix radix width n)) before now now v (reads_at_once (in_radix radix width n) now)
 
     pub digits_read : (radix width : ℕ) (o : Option ℤ) (before first second now : List ℕ) → ReadsAs (with_radix p (text_at list 1)) (Some radix) before first
-        → ReadsAs (with_width p (slice_get (texts_of list) 2)) (Some width) first second → ReadsAs (with_value p (text_at list 0)) o second now
+        → ReadsAs (with_width p (slice_get (texts_of list) 2)) (Some width) first second → ReadsAs (with_expression p (text_at list 0)) o second now
         → ReadsAs (with_digits list p) (option_map (in_radix radix width) o) before now
     digits_read radix width o before first second now r w v =
         reads_on (with_radix p (text_at list 1)) width_after radix (option_map (in_radix radix width) o) before first now r

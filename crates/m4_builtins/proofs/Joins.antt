@@ -9,19 +9,19 @@ use Rattle.m4_state.specs.declared.delimiters.Delimiters.{Delimiters}
 use Rattle.m4_input.specs.Ascii.{dollar, digit_zero}
 use Rattle.m4_input.specs.Token.{run_length}
 use Rattle.m4_builtins.specs.declared.args.Arg.{Arg}
-use Rattle.m4_builtins.specs.Args.{joined, quoted, text_of_arg, text_of_any, or_empty}
+use Rattle.m4_builtins.specs.Args.{joined_by, quoted, text_of_arg, text_of_any, or_empty}
 use Rattle.m4_builtins.specs.Subst.{subst_from, after_dollar, nth_text}
 use Rattle.m4_builtins.specs.Numbers.{IsNumber}
 
 -- what is still to be written of a joined list
 abbrev pub joined_rest : Bool → List ℕ → List (List ℕ) → List ℕ
-joined_rest true separator xs = joined separator xs
+joined_rest true separator xs = joined_by separator xs
 joined_rest false separator [] = []
-joined_rest false separator (x ∷ xs) = separator ++ joined separator (x ∷ xs)
+joined_rest false separator (x ∷ xs) = separator ++ joined_by separator (x ∷ xs)
 
-pub joined_step : (separator x : List ℕ) (xs : List (List ℕ)) → joined separator (x ∷ xs) ≡ x ++ joined_rest false separator xs
+pub joined_step : (separator x : List ℕ) (xs : List (List ℕ)) → joined_by separator (x ∷ xs) ≡ x ++ joined_rest false separator xs
 joined_step separator x [] = sym (append-nil x)
-joined_step separator x (y ∷ ys) = append_assoc x separator (joined separator (y ∷ ys))
+joined_step separator x (y ∷ ys) = append_assoc x separator (joined_by separator (y ∷ ys))
 
 -- a text is written between quotes, after a separator if it is not the first
 module _ (q : Delimiters) (separator out mid new text all : List ℕ) (rest : List (List ℕ)) (first : Bool) where

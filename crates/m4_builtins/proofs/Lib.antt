@@ -2,6 +2,7 @@ pub mod ActKeeps
 pub mod ArithmeticRows
 pub mod Brought
 pub mod CallRows
+pub mod Cases
 pub mod Chosen
 pub mod Cut
 pub mod DivertingRows

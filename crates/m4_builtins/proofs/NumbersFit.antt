@@ -7,9 +7,10 @@ use Rattle.m4_input.specs.Ascii.{is_space}
 use Rattle.m4_input.specs.Token.{run_length}
 use Rattle.m4_builtins.specs.declared.number.Reading.{Reading}
 use Rattle.m4_builtins.specs.declared.number.Reading.TheVariants.{Number, Empty, NotNumeric}
-use Rattle.m4_builtins.specs.Numeric.{plus, minus, signed, greatest, if_it_fits, are_digits, read_digits, read_signed}
+use Rattle.m4_builtins.specs.Numeric.{plus, minus, signed, if_it_fits, are_digits, read_digits, read_signed}
 use Rattle.m4_builtins.specs.Numeric.{reading_of}
 use Rattle.m4_builtins.specs.Subst.{number_of}
+use Rattle.m4_builtins.proofs.Cases.{greatest}
 
 -- the number of a reading fits
 abbrev pub IsReading : Reading → Type 0

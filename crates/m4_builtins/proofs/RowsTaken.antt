@@ -12,29 +12,30 @@ use Rattle.m4_state.specs.declared.builtin.Builtin.TheVariants.{Changequote, Cha
 use Rattle.m4_state.specs.declared.builtin.Builtin.TheVariants.{Index, Substr, Translit, Incr, Decr, Eval, Errprint}
 use Rattle.m4_state.specs.declared.builtin.Builtin.TheVariants.{M4wrap, M4exit, File, Line}
 use Rattle.m4_state.specs.declared.definition.Def.{Def}
-use Rattle.m4_state.specs.Builtin.{takes_tokens, least_of, most_of}
+use Rattle.m4_state.specs.Columns.{takes_tokens, least_of, most_of}
 use Rattle.m4_state.specs.State.{State, popped, undefined, with_quotes, with_comments, top_of}
 use Rattle.m4_eval.specs.InRadix.{in_radix}
 use Rattle.m4_builtins.specs.declared.args.Arg.{Arg}
 use Rattle.m4_builtins.specs.declared.effect.Effect.{Effect}
 use Rattle.m4_builtins.specs.declared.number.Reading.{Reading}
 use Rattle.m4_builtins.specs.declared.place.Place.{Place}
-use Rattle.m4_builtins.specs.Args.{text_of_arg, texts_of, only_text, text_at, or_empty, with_spaces}
+use Rattle.m4_builtins.specs.Args.{text_of_arg, texts_of, text_at, or_empty, with_spaces}
 use Rattle.m4_builtins.specs.Acted.{Acted, nothing, expands, only_warning, warning_first, leaves, changes}
 use Rattle.m4_builtins.specs.Messages.{excess}
 use Rattle.m4_builtins.specs.Numeric.{reading_of, number_of_reading, reading_warning, with_number}
 use Rattle.m4_builtins.specs.Subst.{all_quoted}
 use Rattle.m4_builtins.specs.Naming.{for_each, defn, text_given, left_out}
-use Rattle.m4_builtins.specs.Branching.{ifdef, ifdef_by, ifelse, chosen, has_extra, extra_warning, shift}
+use Rattle.m4_builtins.specs.Branching.{ifdef, ifelse, chosen_text, has_extra, shift}
 use Rattle.m4_builtins.specs.Delimiting.{changequote}
 use Rattle.m4_builtins.specs.Diverting.{divert, undivert, readings_of, brings_back}
-use Rattle.m4_builtins.specs.Printing.{dumpdef, dumped}
-use Rattle.m4_builtins.specs.Texts.{place_in, place_shown, substr}
+use Rattle.m4_builtins.specs.Printing.{dumpdef}
+use Rattle.m4_builtins.specs.Texts.{place_in, substr}
 use Rattle.m4_builtins.specs.Translit.{ranges, translated}
 use Rattle.m4_builtins.specs.Ending.{m4exit}
-use Rattle.m4_builtins.specs.Eval.{with_radix, with_width, with_value, eval}
+use Rattle.m4_builtins.specs.Eval.{with_radix, with_width, with_expression, eval}
 use Rattle.m4_builtins.specs.Indirect.{Inner}
-use Rattle.m4_builtins.specs.Act.{row, warned, taken, act_unless, is_above, excess_if}
+use Rattle.m4_builtins.specs.Act.{row, is_above}
+use Rattle.m4_builtins.proofs.Cases.{only_text, warned, excess_if, taken, act_unless, ifdef_by, extra_warning, place_shown, dumped}
 
 texts_taken : (list : List Arg) → texts_of (map only_text list) ≡ texts_of list
 texts_taken [] = refl
@@ -85,7 +86,7 @@ ifelse_taken (a ∷ []) p = refl
 ifelse_taken (a ∷ b ∷ []) p = refl
 ifelse_taken (a ∷ b ∷ c ∷ rest) p = λ i.
     warning_first (extra_warning p (has_extra (suc (suc (suc (length_taken rest i))))))
-    (expands (chosen (text_of_arg a ∷ text_of_arg b ∷ text_of_arg c ∷ texts_taken rest i)))
+    (expands (chosen_text (text_of_arg a ∷ text_of_arg b ∷ text_of_arg c ∷ texts_taken rest i)))
 
 shift_taken : (list : List Arg) (s : State) → shift (map only_text list) s ≡ shift list s
 shift_taken [] s = refl
@@ -114,7 +115,7 @@ eval_taken : (list : List Arg) (p : Place) → eval (map only_text list) p ≡ e
 eval_taken list p = λ i.
     with_radix p (text_taken list 1 i)
     (λ radix. with_width p (slice_get (texts_taken list i) 2)
-    (λ width. with_value p (text_taken list 0 i)
+    (λ width. with_expression p (text_taken list 0 i)
     (λ n. expands (in_radix radix width n))))
 
 m4exit_taken : (list : List Arg) (p : Place) → m4exit (map only_text list) p ≡ m4exit list p

@@ -3,7 +3,8 @@ use Rattle.std.proofs.Common.{◌≡◌, ℕ, List, [], ◌∷◌, Option, Some,
 use Rattle.std.specs.Prelude.{codes, map}
 use Rattle.m4_state.specs.declared.builtin.Builtin.{Builtin}
 use Rattle.m4_state.specs.declared.definition.Def.TheVariants as defs
-use Rattle.m4_state.specs.Builtin.{table, name_of, takes_tokens, least_of, most_of}
+use Rattle.m4_state.specs.Builtin.{table, name_of}
+use Rattle.m4_state.specs.Columns.{takes_tokens, least_of, most_of}
 use Rattle.m4_builtins.specs.Act.{needs_list}
 
 -- a column of the table, beside the names

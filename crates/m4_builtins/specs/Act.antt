@@ -1,12 +1,13 @@
--- Act: the effect of a call on the state, and its effects that the run still has to apply.
+-- Act: the effect of a call on the state, and its effects that the run still has to apply. Its point is `act`.
 -- Believed. Its lemmas: `ActKeeps` (a valid state stays valid, and pushes valid definitions).
 -- Manual: "Deleting whitespace in input", "Arguments to macros", "Macro invocation"; the sections of
 -- the other builtins are named at their own definitions, a file for each chapter.
--- Words: row, warned, act_with, goes_on, act, needs_list, given_though_few. One line for each builtin, and one for
+-- Words: row, act_with, goes_on, act, needs_list, given_though_few. One line for each builtin, and one for
 -- each kind of definition.
 -- own: a placeholder, which names a builtin of another m4, expands to nothing with a warning.
 -- own: with one argument `index` expands to 0, `substr` and `translit` to it, after the warning.
 use Rattle.std.specs.Prelude.{ℕ, Bool, true, false, nat_lt, List, [], ◌∷◌, Option, Some, None, length, map, codes}
+use Rattle.std.specs.Prelude.{if◌then◌else◌}
 use Rattle.m4_state.specs.declared.builtin.Builtin.{Builtin}
 use Rattle.m4_state.specs.declared.builtin.Builtin.TheVariants.{Define, Undefine, Pushdef, Popdef, Defn, Indir}
 use Rattle.m4_state.specs.declared.builtin.Builtin.TheVariants.{IndirBuiltin, Ifdef, Ifelse, Shift, Dumpdef, Dnl}
@@ -15,14 +16,15 @@ use Rattle.m4_state.specs.declared.builtin.Builtin.TheVariants.{Index, Substr, T
 use Rattle.m4_state.specs.declared.builtin.Builtin.TheVariants.{M4wrap, M4exit, File, Line}
 use Rattle.m4_state.specs.declared.definition.Def.{Def}
 use Rattle.m4_state.specs.declared.definition.Def.TheVariants as defs
-use Rattle.m4_state.specs.Builtin.{needs_args, takes_tokens, least_of, most_of}
+use Rattle.m4_state.specs.Builtin.{row_of}
 use Rattle.m4_state.specs.State.{State}
 use Rattle.m4_input.specs.declared.pushed.Pushed.{Pushed}
 use Rattle.m4_input.specs.declared.pushed.Pushed.TheVariants as pushes
 use Rattle.m4_builtins.specs.declared.args.Arg.{Arg}
+use Rattle.m4_builtins.specs.declared.args.Arg.TheVariants as args
 use Rattle.m4_builtins.specs.declared.place.Place.{Place}
 pub use Rattle.m4_builtins.specs.Acted.{Acted, IsPushed, nothing, expands, only_warning, warning_first, leaves, changes}
-use Rattle.m4_builtins.specs.Args.{text_of_arg, only_text}
+use Rattle.m4_builtins.specs.Args.{text_of_arg}
 use Rattle.m4_builtins.specs.Arithmetic.{incr, decr}
 use Rattle.m4_builtins.specs.Branching.{ifdef, ifelse, shift}
 use Rattle.m4_builtins.specs.Delimiting.{changequote, changecom}
@@ -39,9 +41,8 @@ use Rattle.m4_builtins.specs.Translit.{translit}
 
 -- whether a definition is recognised only with parameters: without a list its name is text
 abbrev pub needs_list : Def → Bool
-needs_list (defs.Text x) = false
-needs_list (defs.Builtin b) = needs_args b
-needs_list (defs.Placeholder x) = false
+needs_list (defs.Builtin b) = (row_of b).needs_args
+needs_list d = false
 
 -- the effect of a builtin with enough arguments
 abbrev pub row : Inner → Builtin → List Arg → Place → State → Acted
@@ -77,18 +78,7 @@ row inner Line list p s = leaves s (line p)
 
 -- whether a count is above the maximum
 abbrev pub is_above : Option ℕ → ℕ → Bool
-is_above None n = false
-is_above (Some most) n = nat_lt most n
-
--- the warning on arguments above the maximum; they are ignored
-abbrev pub excess_if : Bool → Place → Builtin → List ℕ
-excess_if true p b = excess p b
-excess_if false p b = []
-
--- the arguments as the builtin accepts them: definitions as such, or as empty texts
-abbrev pub taken : Bool → List Arg → List Arg
-taken true list = list
-taken false list = map only_text list
+is_above o n = elim o [ None ↦ false | Some most ↦ nat_lt most n ]
 
 -- the value that a call with missing arguments still expands to
 abbrev pub given_though_few : Builtin → List Arg → Option Pushed
@@ -97,30 +87,19 @@ given_though_few Substr (a ∷ []) = Some (pushes.Text (text_of_arg a))
 given_though_few Translit (a ∷ []) = Some (pushes.Text (text_of_arg a))
 given_though_few b list = None
 
--- a call with missing arguments: a warning, and the state stays
-abbrev pub lacks : Builtin → List Arg → Place → State → Acted
-lacks b list p s = leaves s (record nothing { push = given_though_few b list; messages = too_few p b })
-
--- a call with a message before its others
-abbrev pub warned : List ℕ → Acted → Acted
-warned x r = leaves r.state (warning_first x r.effect)
-
--- a builtin's row; `few` says that arguments are missing
-abbrev pub act_unless : Inner → Bool → Builtin → List Arg → Place → State → Acted
-act_unless inner true b list p s = lacks b list p s
-act_unless inner false b list p s =
-    warned (excess_if (is_above (most_of b) (length list)) p b)
-    (row inner b (taken (takes_tokens b) list) p s)
-
--- a call of a definition under a name; `inner` continues an indirect call
+-- a call of a definition under a name; `inner` continues an indirect call. A builtin warns of missing arguments, and
+-- the state stays; it warns of excess ones and ignores them. A definition counts as empty unless the builtin accepts it
 abbrev pub act_with : Inner → Def → List ℕ → List Arg → Place → State → Acted
 act_with inner (defs.Text x) name list p s = leaves s (expands (subst x name list s.quotes))
 act_with inner (defs.Builtin b) name list p s =
-    act_unless inner (nat_lt (length list) (least_of b)) b list p s
+    if nat_lt (length list) (row_of b).least
+    then leaves s (record nothing { push = given_though_few b list; messages = too_few p b })
+    else (let given = if (row_of b).takes_tokens then list else map (λ a. args.Text (text_of_arg a)) list in
+    let r = row inner b given p s in
+    leaves r.state (warning_first (if is_above (row_of b).most (length list) then excess p b else []) r.effect))
 act_with inner (defs.Placeholder x) name list p s = leaves s (only_warning (unsupported p x))
 
--- how an indirect call with these arguments continues: as a call with those after the first; without any
--- it does nothing
+-- how an indirect call with these arguments continues: with those after the first; without any it does nothing
 abbrev pub goes_on : List Arg → Place → State → Inner
 goes_on [] p s d name = changes s
 goes_on (a ∷ rest) p s d name = act_with (goes_on rest p s) d name rest p s

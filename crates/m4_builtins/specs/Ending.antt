@@ -1,8 +1,8 @@
 -- Ending: the builtins that save text for the end of the input, or end the run.
 -- Believed. Manual: "Saving text until end of input", "Exiting from m4".
--- Words: m4wrap, exits, exits_by, m4exit.
+-- Words: m4wrap, exits, exits_reading, m4exit.
 -- own: a code outside 0 to 255 is 1, with a warning; so is an argument that is no number.
-use Rattle.std.specs.Prelude.{ℕ, ℤ, pos, negsuc, nat_le, List, [], ◌∷◌, Some, if◌then◌else◌}
+use Rattle.std.specs.Prelude.{ℕ, pos, negsuc, nat_le, List, [], ◌∷◌, Some, if◌then◌else◌}
 use Rattle.m4_state.specs.declared.builtin.Builtin.TheVariants.{M4exit}
 use Rattle.m4_builtins.specs.declared.args.Arg.{Arg}
 use Rattle.m4_builtins.specs.declared.effect.Effect.{Effect}
@@ -22,13 +22,10 @@ m4wrap list = record nothing { wrap = Some (with_spaces (texts_of list)) }
 abbrev pub exits : ℕ → Effect
 exits code = record nothing { exit = Some code }
 
--- by a number, which may be no valid code
-abbrev pub exits_by : ℤ → Place → Effect
-exits_by (pos n) p = if nat_le n 255 then exits n else warning_first (bad_status p) (exits 1)
-exits_by (negsuc n) p = warning_first (bad_status p) (exits 1)
-
+-- by the number that was read, which may be no valid code
 abbrev pub exits_reading : Reading → Place → Effect
-exits_reading (Number n) p = exits_by n p
+exits_reading (Number (pos n)) p = if nat_le n 255 then exits n else warning_first (bad_status p) (exits 1)
+exits_reading (Number (negsuc n)) p = warning_first (bad_status p) (exits 1)
 exits_reading Empty p = warning_first (empty_number p M4exit) (exits 0)
 exits_reading NotNumeric p = warning_first (not_numeric p M4exit) (exits 1)
 

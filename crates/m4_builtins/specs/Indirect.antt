@@ -1,8 +1,7 @@
 -- Indirect: the builtins that call by a name given as an argument.
 -- Believed. Manual: "Indirect call of macros", "Indirect call of builtins". Words: Inner, indir,
 -- builtin. Each makes its call with the arguments after the first.
-use Rattle.std.specs.Prelude.{ℕ, List, [], ◌∷◌, Option, Some, None}
-use Rattle.m4_state.specs.declared.builtin.Builtin.{Builtin}
+use Rattle.std.specs.Prelude.{ℕ, List, [], ◌∷◌, Some, None}
 use Rattle.m4_state.specs.declared.builtin.Builtin.TheVariants.{Indir, IndirBuiltin}
 use Rattle.m4_state.specs.declared.definition.Def.{Def}
 use Rattle.m4_state.specs.declared.definition.Def.TheVariants as defs
@@ -18,24 +17,16 @@ use Rattle.m4_builtins.specs.Messages.{unknown_macro, unknown_builtin, bad_name}
 abbrev pub Inner : Type 0
 Inner = Def → List ℕ → Acted
 
--- a call of the definition of a name, if there is one
-abbrev pub called_by_name : Inner → Option Def → List ℕ → Place → State → Acted
-called_by_name inner None name p s = leaves s (only_warning (unknown_macro p name))
-called_by_name inner (Some d) name p s = inner d name
-
 -- `indir`: the macro of that name, by its top definition
 abbrev pub indir : Inner → List Arg → Place → State → Acted
 indir inner [] p s = changes s
-indir inner (args.Text x ∷ rest) p s = called_by_name inner (top_of s x) x p s
+indir inner (args.Text x ∷ rest) p s =
+    elim (top_of s x) [ None ↦ leaves s (only_warning (unknown_macro p x)) | Some d ↦ inner d x ]
 indir inner (args.Definition d ∷ rest) p s = leaves s (only_warning (bad_name p Indir))
-
--- a call of a builtin by its own name, if there is one
-abbrev pub done_by_name : Inner → Option Builtin → List ℕ → Place → State → Acted
-done_by_name inner None name p s = leaves s (only_warning (unknown_builtin p name))
-done_by_name inner (Some b) name p s = inner (defs.Builtin b) name
 
 -- `builtin`: the builtin of that name, whatever definitions the name has
 abbrev pub builtin : Inner → List Arg → Place → State → Acted
 builtin inner [] p s = changes s
-builtin inner (args.Text x ∷ rest) p s = done_by_name inner (builtin_named x) x p s
+builtin inner (args.Text x ∷ rest) p s =
+    elim (builtin_named x) [ None ↦ leaves s (only_warning (unknown_builtin p x)) | Some b ↦ inner (defs.Builtin b) x ]
 builtin inner (args.Definition d ∷ rest) p s = leaves s (only_warning (bad_name p IndirBuiltin))

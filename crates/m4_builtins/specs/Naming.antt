@@ -14,14 +14,15 @@ use Rattle.m4_builtins.specs.declared.args.Arg.{Arg}
 use Rattle.m4_builtins.specs.declared.args.Arg.TheVariants as args
 use Rattle.m4_builtins.specs.declared.effect.Effect.{Effect}
 use Rattle.m4_builtins.specs.declared.place.Place.{Place}
-use Rattle.m4_builtins.specs.Args.{text_of_arg, texts_of, definition_of_arg, quoted}
+use Rattle.m4_builtins.specs.Args.{text_of_arg, texts_of, quoted}
 use Rattle.m4_builtins.specs.Acted.{Acted, nothing, gives, expands, only_warning, warning_first, leaves, changes}
 use Rattle.m4_builtins.specs.Messages.{dropped, bad_name}
 
 -- the second of two arguments as a definition, or the empty text if there is none
 abbrev pub definition_in : List Arg → Def
 definition_in [] = defs.Text []
-definition_in (a ∷ rest) = definition_of_arg a
+definition_in (args.Text x ∷ rest) = defs.Text x
+definition_in (args.Definition d ∷ rest) = d
 
 -- `define`: the first argument is the name; it can't be a definition
 abbrev pub define : List Arg → Place → State → Acted
@@ -51,22 +52,18 @@ popdef list s = changes (for_each popped list s)
 abbrev pub definition_given : Delimiters → Option Def → Pushed
 definition_given q None = pushes.Text []
 definition_given q (Some (defs.Text x)) = pushes.Text (quoted q x)
-definition_given q (Some (defs.Builtin b)) = pushes.Definition (defs.Builtin b)
-definition_given q (Some (defs.Placeholder x)) = pushes.Definition (defs.Placeholder x)
+definition_given q (Some d) = pushes.Definition d
 
 -- `defn` of one name of several: its text between quotes, or nothing
 abbrev pub text_given : Delimiters → Option Def → List ℕ
-text_given q None = []
 text_given q (Some (defs.Text x)) = quoted q x
-text_given q (Some (defs.Builtin b)) = []
-text_given q (Some (defs.Placeholder x)) = []
+text_given q o = []
 
 -- and the warning on a builtin or placeholder that is left out
 abbrev pub left_out : Place → Option Def → List ℕ
 left_out p None = []
 left_out p (Some (defs.Text x)) = []
-left_out p (Some (defs.Builtin b)) = dropped p
-left_out p (Some (defs.Placeholder x)) = dropped p
+left_out p (Some d) = dropped p
 
 -- the top definitions of names
 abbrev pub tops_of : State → List Arg → List (Option Def)
@@ -76,6 +73,5 @@ tops_of s list = map (top_of s) (texts_of list)
 abbrev pub defn : List Arg → Place → State → Effect
 defn [] p s = nothing
 defn (a ∷ []) p s = gives (definition_given s.quotes (top_of s (text_of_arg a)))
-defn (a ∷ b ∷ rest) p s =
-    warning_first (flat_map (left_out p) (tops_of s (a ∷ b ∷ rest)))
-    (expands (flat_map (text_given s.quotes) (tops_of s (a ∷ b ∷ rest))))
+defn list p s =
+    warning_first (flat_map (left_out p) (tops_of s list)) (expands (flat_map (text_given s.quotes) (tops_of s list)))

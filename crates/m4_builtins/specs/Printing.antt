@@ -30,19 +30,16 @@ shown q (defs.Placeholder x) = bracketed x
 
 -- the line of a name
 abbrev pub line_shown : Delimiters → List ℕ → Option Def → List ℕ
-line_shown q name None = []
-line_shown q name (Some d) = name ++ codes ":\t" ++ shown q d ++ codes "\n"
+line_shown q name o = elim o [ None ↦ [] | Some d ↦ name ++ codes ":\t" ++ shown q d ++ codes "\n" ]
 
 -- the warning on a name without a definition
 abbrev pub unknown_if : Place → List ℕ → Option Def → List ℕ
-unknown_if p name None = unknown_macro p name
-unknown_if p name (Some d) = []
+unknown_if p name o = elim o [ None ↦ unknown_macro p name | Some d ↦ [] ]
 
 -- a name inserted into names in byte order, before those that aren't below it
 abbrev pub placed : List ℕ → List (List ℕ) → List (List ℕ)
 placed name [] = name ∷ []
-placed name (other ∷ names) =
-    if is_lt (byte_order other name) then other ∷ placed name names else name ∷ other ∷ names
+placed name (other ∷ names) = if is_lt (byte_order other name) then other ∷ placed name names else name ∷ other ∷ names
 
 -- names in byte order; duplicates stay
 abbrev pub in_byte_order : List (List ℕ) → List (List ℕ)
@@ -52,7 +49,7 @@ in_byte_order (name ∷ names) = placed name (in_byte_order names)
 -- the names that `dumpdef` shows: all of them if it has no arguments
 abbrev pub names_shown : List Arg → State → List (List ℕ)
 names_shown [] s = names_of s
-names_shown (a ∷ rest) s = texts_of (a ∷ rest)
+names_shown list s = texts_of list
 
 -- the warnings on names, in the given order
 abbrev pub warnings_on : List (List ℕ) → Place → State → List ℕ
@@ -63,11 +60,9 @@ abbrev pub lines_of : List (List ℕ) → State → List ℕ
 lines_of names s = flat_map (λ name. line_shown s.quotes name (top_of s name)) names
 
 -- `dumpdef`: the warnings in the given order of names, then the lines in byte order
-abbrev pub dumped : List (List ℕ) → Place → State → List ℕ
-dumped names p s = warnings_on names p s ++ lines_of (in_byte_order names) s
-
 abbrev pub dumpdef : List Arg → Place → State → Effect
-dumpdef list p s = only_warning (dumped (names_shown list s) p s)
+dumpdef list p s =
+    let names = names_shown list s in only_warning (warnings_on names p s ++ lines_of (in_byte_order names) s)
 
 -- `errprint`: the arguments joined by spaces; no newline is added
 abbrev pub errprint : List Arg → Effect

@@ -21,34 +21,24 @@ abbrev pub place_in : List ℕ → List ℕ → Option ℕ
 place_in text [] = Some 0
 place_in text (b ∷ part) = before (b ∷ part) text
 
--- a place, or -1 if there is none
-abbrev pub place_shown : Option ℕ → List ℕ
-place_shown None = codes "-1"
-place_shown (Some n) = decimal n
-
--- `index`
+-- `index`: that place, or -1 if there is none
 abbrev pub index : List Arg → Effect
-index list = expands (place_shown (place_in (text_at list 0) (text_at list 1)))
+index list = expands (elim (place_in (text_at list 0) (text_at list 1)) [ None ↦ codes "-1" | Some n ↦ decimal n ])
 
 -- the bytes from a place on; none if the place is negative, or after the end of the text
 abbrev pub from_place : ℤ → List ℕ → List ℕ
-from_place (pos n) x = drop n x
-from_place (negsuc n) x = []
+from_place place x = elim place [ pos n ↦ drop n x | negsuc n ↦ [] ]
 
 -- at most n bytes; none if the count isn't positive
 abbrev pub at_most : ℤ → List ℕ → List ℕ
-at_most (pos n) x = take n x
-at_most (negsuc n) x = []
+at_most count x = elim count [ pos n ↦ take n x | negsuc n ↦ [] ]
 
--- `substr`, whose numbers are read from left to right before anything is cut; without a count, all of
--- the rest
+-- `substr`, whose numbers are read from left to right before anything is cut; without a count, all of the rest
 abbrev pub substr : List Arg → Place → Effect
-substr [] p = nothing
-substr (a ∷ []) p = nothing
 substr (a ∷ b ∷ []) p =
-    with_number p Substr (reading_of (text_of_arg b))
-    (λ from. expands (from_place from (text_of_arg a)))
+    with_number p Substr (reading_of (text_of_arg b)) (λ from. expands (from_place from (text_of_arg a)))
 substr (a ∷ b ∷ c ∷ rest) p =
     with_number p Substr (reading_of (text_of_arg b))
     (λ from. with_number p Substr (reading_of (text_of_arg c))
     (λ count. expands (at_most count (from_place from (text_of_arg a)))))
+substr few p = nothing

@@ -4,7 +4,7 @@
 ghost use Rattle.std.specs.Prelude.{◌≡◌, IfOk, OnOk, [], length, nat_lt};
 ghost use Rattle.std.specs.List.{AllByRecursion};
 ghost use Rattle.m4_state.specs.Definition.{IsDefinition};
-ghost use Rattle.m4_state.specs.Builtin.{most_of};
+ghost use Rattle.m4_state.specs.Columns.{most_of};
 ghost use Rattle.m4_state.specs.declared.definition.Def.TheVariants as defs;
 ghost use Rattle.m4_builtins.specs.Acted.{IsPushed, nothing};
 ghost use Rattle.m4_builtins.specs.Args.{IsArg};

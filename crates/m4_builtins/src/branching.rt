@@ -58,7 +58,7 @@ pub(crate) fn ifelse(
 
 /// Returns the argument that is chosen, of three or more; none if the call expands to nothing.
 fn chosen(list: &[Arg]) -> Option<&Arg>
-    ensures { text_of_any (option_copied result) ≡ spec.chosen (texts_of list.now) }
+    ensures { text_of_any (option_copied result) ≡ spec.chosen_text (texts_of list.now) }
 {
     let mut rest = list;
     while let [x, y, same, others @ ..] = rest {

@@ -100,7 +100,7 @@ fn bring_back_each(
     ensures state { OnOk result (state.new
         ≡ spec.brought_back (filter_map number_of_reading (spec.readings_of list.now)) state.old) }
     ensures output { OnOk result (output.new.items ≡ output.old.items
-        ++ spec.issued_by (filter_map number_of_reading (spec.readings_of list.now)) state.old) }
+        ++ spec.issued_by_all (filter_map number_of_reading (spec.readings_of list.now)) state.old) }
     ensures warns { OnOk result (messages.new.items
         ≡ messages.old.items ++ flat_map (reading_warning place.now builtins.Undivert) (spec.readings_of list.now)) }
 {
@@ -115,7 +115,7 @@ fn bring_back_each(
 /// Undiverts diversions, one after another, and appends their text to the output.
 fn bring_back(numbers: &[i32], state: &mut State, output: &mut Vec<u8>) -> Result<(), BuiltinFault>
     ensures state { OnOk result (state.new ≡ spec.brought_back numbers.now state.old) }
-    ensures output { OnOk result (output.new.items ≡ output.old.items ++ spec.issued_by numbers.now state.old) }
+    ensures output { OnOk result (output.new.items ≡ output.old.items ++ spec.issued_by_all numbers.now state.old) }
 {
     for number in numbers {
         if let Some(text) = state.undivert(*number)? {

@@ -116,7 +116,7 @@ fn value_in(
     place: &Place,
     messages: &mut Vec<u8>,
 ) -> Result<Option<i32>, AllocError>
-    ensures { IfOk result (λ value. ReadsAs (spec.with_value place.now text.now) value messages.old.items
+    ensures { IfOk result (λ value. ReadsAs (spec.with_expression place.now text.now) value messages.old.items
         messages.new.items) }
 {
     if is_blank(text) {

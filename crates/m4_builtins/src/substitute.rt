@@ -6,7 +6,7 @@ ghost use Rattle.m4_state.specs.declared.delimiters.Delimiters.{Delimiters};
 ghost use Rattle.m4_input.specs.Ascii.{dollar, is_digit};
 ghost use Rattle.m4_input.specs.Token.{run_length};
 ghost use Rattle.m4_builtins.specs.QuotesView.{pair_of};
-ghost use Rattle.m4_builtins.specs.Args.{text_of_arg, texts_of, joined, quoted};
+ghost use Rattle.m4_builtins.specs.Args.{text_of_arg, texts_of, joined_by, quoted};
 ghost use Rattle.m4_builtins.specs.Subst.{subst, after_dollar, number_of, nth_text, all_quoted};
 ghost use Rattle.m4_builtins.specs.Numbers.{IsNumber};
 
@@ -270,7 +270,7 @@ fn push_count(out: &mut Vec<u8>, count: usize) -> Result<(), AllocError>
 /// Appends the arguments, with a separator between any two of them.
 #[tactic(auto, using(crate::proofs::Joins::joined_step))]
 pub(crate) fn push_joined(out: &mut Vec<u8>, args: &[Arg], separator: u8) -> Result<(), AllocError>
-    ensures { OnOk result (out.new.items ≡ out.old.items ++ joined (separator ∷ []) (texts_of args.now)) }
+    ensures { OnOk result (out.new.items ≡ out.old.items ++ joined_by (separator ∷ []) (texts_of args.now)) }
 {
     let mut first = true;
     for arg in args {

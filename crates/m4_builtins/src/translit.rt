@@ -60,7 +60,7 @@ fn ranges(alloc: Global, text: &[u8]) -> Result<Vec<u8>, AllocError>
 
 /// Appends the bytes from one to another, without the first.
 fn push_run(out: &mut Vec<u8>, from: u8, to: u8) -> Result<(), AllocError>
-    ensures { OnOk result (out.new.items ≡ out.old.items ++ spec.run from to) }
+    ensures { OnOk result (out.new.items ≡ out.old.items ++ spec.bytes_between from to) }
 {
     if from < to {
         push_rising(out, from, to)

@@ -18,13 +18,14 @@ use Rattle.m4_engine.specs.Expansion.{RunSoFar, Ends}
 use Rattle.m4_engine.specs.Nesting.{Turn, Halted, Close, Outcome, Closed}
 use Rattle.m4_engine.specs.OpenCalls.{Stops, Stacked, Move, Goes, pop}
 use Rattle.m4_engine.specs.Expansion.{Call, Limits, Expansion, Kept, Ended, reading}
-use Rattle.m4_engine.specs.Expand.{turn, join, effected, skip_line, skip_or_push, with_saved, with_value, with_acted}
-use Rattle.m4_engine.specs.Expand.{mode_after_call, take_other}
+use Rattle.m4_engine.specs.Expand.{turn, join, effected, skip_line, with_saved, with_value, with_acted}
+use Rattle.m4_engine.specs.Expand.{take_other}
 use Rattle.m4_engine.specs.Engine.{Engine, so_far_of, mode_of, kept_in, outer_of, here_of, configuration, begun_in}
 use Rattle.m4_engine.specs.Engine.{with_made, ending_in, ending_argument, with_open_call, put_in}
 use Rattle.m4_engine.specs.Engine.{IsReady}
 use Rattle.m4_engine.specs.Turns.{called_within, close_in, step, moved, Makes, IsMade, StaysBy, Steps, StepsBy, IsTurned}
 use Rattle.m4_engine.specs.Turns.{Turns, MayFollow, Moving, Extended, line_move, Moves}
+use Rattle.m4_engine.proofs.Cases.{skip_or_push, mode_after_call}
 
 -- the state of an expansion after a call with these effects
 abbrev after : Acted → List ℕ → List ℕ → Engine → Pending → Expansion

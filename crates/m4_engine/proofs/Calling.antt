@@ -16,11 +16,12 @@ use Rattle.m4_builtins.specs.declared.fault.BuiltinFault.{BuiltinFault as TurnFa
 use Rattle.m4_engine.specs.Nesting.{Outcome, Halted, Closed}
 use Rattle.m4_engine.specs.OpenCalls.{Stops, Goes, pop}
 use Rattle.m4_engine.specs.Expansion.{Call, Expansion, Kept, Ended, Ends, fail}
-use Rattle.m4_engine.specs.Expand.{turn, join, called, bare, collect, call_unless_deep, call_if_room, call, take_end}
+use Rattle.m4_engine.specs.Expand.{turn, join, called, bare, collect, call, take_end}
 use Rattle.m4_engine.specs.Engine.{Engine, so_far_of, mode_of, kept_in, outer_of, here_of, configuration, with_engine_message}
 use Rattle.m4_engine.specs.Engine.{with_one_call, calls_text, nested_text, with_open_call, is_deep_in}
 use Rattle.m4_engine.specs.Turns.{called_within, step, Extended, Moves}
 use Rattle.m4_engine.proofs.Acts.{moves_by}
+use Rattle.m4_engine.proofs.Cases.{call_unless_deep, call_if_room}
 
 -- an expansion that fails
 pub failed_at : (o m : List ℕ) (e e1 : Engine) (p : Pending) (at : Place) (text : List ℕ) (cause : Cause)

@@ -22,13 +22,14 @@ use Rattle.m4_engine.specs.Expansion.{reading}
 use Rattle.m4_engine.specs.declared.role.Role.{Role}
 use Rattle.m4_engine.specs.declared.role.Role.TheVariants.{Opening, Closing, Separator, Blank, Other}
 use Rattle.m4_engine.specs.Args.{role_of, take_closing, take_byte}
-use Rattle.m4_engine.specs.Expand.{skip_all, skip_line, skip_or_push, effected, kept_of, after_call, called, join_by}
-use Rattle.m4_engine.specs.Expand.{join, call_of, bare, collect, call_unless_deep, is_deep, call_if_room, call}
-use Rattle.m4_engine.specs.Expand.{call_without_list, take_call, take_name, take_other, take_end, take_token}
+use Rattle.m4_engine.specs.Expand.{skip_all, skip_line, effected, kept_of, after_call, called}
+use Rattle.m4_engine.specs.Expand.{join, call_of, bare, collect, is_deep, call}
+use Rattle.m4_engine.specs.Expand.{take_call, take_name, take_other, take_end, take_token}
 use Rattle.m4_engine.specs.Expand.{take_front, turn, definition_size, pending_size, out_of_bound_at, size_of}
 use Rattle.m4_engine.specs.Expand.{calls_left, expand}
 use Rattle.m4_engine.proofs.Bounds.{expansion_is}
 use Rattle.m4_input.proofs.Consumed.{HasBytes, scan_bytes, text-consumed}
+use Rattle.m4_engine.proofs.Cases.{skip_or_push, join_by, call_unless_deep, call_if_room, call_without_list}
 
 -- what a turn from s keeps: the calls left don't rise, and a token has text
 pub Good : Expansion → Turn Expansion Kept Ended → Type 0

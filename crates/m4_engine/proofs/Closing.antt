@@ -6,12 +6,13 @@ use Rattle.m4_engine.specs.declared.stop.Stop.{Stop}
 use Rattle.m4_engine.specs.declared.stop.Stop.TheVariants as stops
 use Rattle.m4_engine.specs.Order.{InEnd, Breaks, BreaksBy}
 use Rattle.m4_engine.specs.RunSteps.{UsesWriters}
-use Rattle.m4_engine.specs.Session.{SessionState, CloseGives, FinishGives, FreezeGives, FreezeUses, FrozenGives}
+use Rattle.m4_engine.specs.Session.{SessionState, FinishGives, FreezeGives, FreezeUses, FrozenGives}
 use Rattle.m4_engine.specs.Session.{progress_of}
-use Rattle.m4_engine.specs.SessionFailures.{SparesBy, ThreeFail, WriteFails}
+use Rattle.m4_engine.specs.SessionFailures.{ThreeFail, WriteFails}
 use Rattle.m4_engine.specs.Writers.{Contents, Failures, Three, all_three, both, writers, IsSpared}
 use Rattle.m4_engine.proofs.Starts.{spares_any, spared_answer}
 use Rattle.m4_engine.proofs.Wrapping.{uses_none}
+use Rattle.m4_engine.specs.SessionSteps.{CloseGives, SparesBy}
 
 -- the frozen text's writer after a run that froze
 freeze_spares : (old : SessionState) (w : Three (Option (List ℕ))) (r : Result Unit Stop) → FrozenGives old w r → SparesBy r w

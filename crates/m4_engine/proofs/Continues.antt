@@ -11,9 +11,10 @@ use Rattle.m4_input.specs.declared.front.Scan.TheVariants.{Found, Broken, NeedsM
 use Rattle.m4_input.specs.declared.front.Unended.{Unended}
 use Rattle.m4_input.specs.declared.front.Answer.{Answer}
 use Rattle.m4_input.specs.declared.front.Answer.TheVariants.{Yes, No, Unknown}
-use Rattle.m4_input.specs.Pending.{Pending, text_of, line_length, one_more}
+use Rattle.m4_input.specs.Pending.{Pending, text_of, line_length, one_longer}
 use Rattle.m4_input.specs.Token.{scan, Front, Taken, Refused, More, front_by, front_from, token_at}
-use Rattle.m4_input.specs.Paren.{paren_in, paren_from, paren_at}
+use Rattle.m4_input.specs.Paren.{paren_in, paren_at}
+use Rattle.m4_input.proofs.Cases.{paren_from}
 use Rattle.m4_state.specs.State.{top_of}
 use Rattle.m4_input.specs.declared.pushed.Pushed.{Pushed}
 use Rattle.m4_input.specs.declared.pushed.Pushed.TheVariants as pushes
@@ -26,9 +27,9 @@ use Rattle.m4_engine.specs.Expansion.{place_at, with_call, reading}
 use Rattle.m4_engine.specs.declared.role.Role.{Role}
 use Rattle.m4_engine.specs.declared.role.Role.TheVariants.{Opening, Closing, Separator, Blank, Other}
 use Rattle.m4_engine.specs.Args.{role_of, take_closing, take_byte}
-use Rattle.m4_engine.specs.Expand.{with_value, skip_all, skip_line, skip_or_push, effected, acted_at, kept_of}
-use Rattle.m4_engine.specs.Expand.{after_call, called, join_by, join, call_of, bare, collect, call_unless_deep}
-use Rattle.m4_engine.specs.Expand.{is_deep, call_if_room, call_without_list, take_call, take_name, take_other}
+use Rattle.m4_engine.specs.Expand.{with_value, skip_all, skip_line, effected, acted_at, kept_of}
+use Rattle.m4_engine.specs.Expand.{after_call, called, join, call_of, bare, collect}
+use Rattle.m4_engine.specs.Expand.{is_deep, take_call, take_name, take_other}
 use Rattle.m4_engine.specs.Expand.{take_token, take_front, unended_cause, turn, size_of, calls_left, out_of_bound_at}
 use Rattle.m4_engine.specs.Expand.{expand}
 use Rattle.m4_engine.specs.Moments.{so_far_in}
@@ -40,6 +41,7 @@ use Rattle.m4_engine.proofs.Beside.{Follows, Fits, expansion_fits}
 use Rattle.m4_engine.proofs.CallsFall.{falls, expand_is}
 use Rattle.m4_engine.proofs.OnlyGrows.{extends_more, made, bare_made, skipped_keeps, on_answer_keeps, on_seen_keeps}
 use Rattle.m4_engine.proofs.OnlyGrows.{whole_keeps, then_keeps, list_keeps, turn_goes}
+use Rattle.m4_engine.proofs.Cases.{skip_or_push, join_by, call_unless_deep, call_if_room, call_without_list}
 
 module _ (z : List ℕ) (b : Bool) where
   longer_seen : Front → Front
@@ -102,11 +104,11 @@ module _ (z : List ℕ) (b : Bool) where
   pub line_stays : (x : List ℕ) (n : ℕ) → line_length x ≡ Some n → (line_length (x ++ z) ≡ Some n) × (n ≤ length x)
   line_stays [] n e = cc
   line_stays (c ∷ x) n e =
-      (elim (c == 10) as (λ v. (elim v [ true ↦ Some 1 | false ↦ one_more (line_length x) ]) ≡ Some n
-      → ((elim v [ true ↦ Some 1 | false ↦ one_more (line_length (x ++ z)) ]) ≡ Some n) × (n ≤ length (c ∷ x))) [
+      (elim (c == 10) as (λ v. (elim v [ true ↦ Some 1 | false ↦ one_longer (line_length x) ]) ≡ Some n
+      → ((elim v [ true ↦ Some 1 | false ↦ one_longer (line_length (x ++ z)) ]) ≡ Some n) × (n ≤ length (c ∷ x))) [
         | true ↦ λ f. (f, (let m : 1 ≡ n = cc in omega arith))
         | false ↦ λ f. let h = one_more_is (line_length x) n f in let k = line_stays x h.0 h.1 in let l : h.0
-            ≤ length x = k.1 in let m : n ≡ suc h.0 = h.2 in (ap one_more k.0 ∙ sym (ap Some h.2), omega arith)
+            ≤ length x = k.1 in let m : n ≡ suc h.0 = h.2 in (ap one_longer k.0 ∙ sym (ap Some h.2), omega arith)
       ]) e
 
   pushed_same : (v : Option Pushed) (p : Pending) → with_value v (longer z b p) ≡ longer z b (with_value v p)

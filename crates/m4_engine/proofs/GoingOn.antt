@@ -12,11 +12,12 @@ use Rattle.m4_engine.specs.Expansion.{Limits, EndReason, Ends}
 use Rattle.m4_engine.specs.File.{Source, Progress, after_sources}
 use Rattle.m4_engine.specs.Wraps.{read_saved, after_wraps}
 use Rattle.m4_engine.specs.Order.{preceded}
-use Rattle.m4_engine.specs.Session.{SessionState, progress_of, how_over, written, IsOpen, Completed, BrokeOff, GoesTo}
+use Rattle.m4_engine.specs.Session.{SessionState, progress_of, how_over, written, IsOpen, Completed}
 use Rattle.m4_engine.specs.Writers.{Contents, writers}
 use Rattle.m4_engine.proofs.Begins.{begun_after}
 use Rattle.m4_engine.proofs.Growth.{Extends}
 use Rattle.m4_engine.proofs.RunsAfter.{Bp, Prefixed, sources_follow, round_follows, rounds_after}
+use Rattle.m4_engine.specs.SessionSteps.{BrokeOff, GoesTo}
 
 -- a progress after the bytes that were written before
 abbrev pub after : List ℕ → List ℕ → Progress → Progress

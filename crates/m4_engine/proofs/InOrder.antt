@@ -24,9 +24,9 @@ use Rattle.m4_engine.specs.Expansion.{Ended, place_at, with_call, reading, put_t
 use Rattle.m4_engine.specs.declared.role.Role.{Role}
 use Rattle.m4_engine.specs.declared.role.Role.TheVariants.{Opening, Closing, Separator, Blank, Other}
 use Rattle.m4_engine.specs.Args.{end_argument, with_parenthesis, role_of, take_closing, take_byte}
-use Rattle.m4_engine.specs.Expand.{with_value, skip_all, skip_line, skip_or_push, effected, acted_at, kept_of}
-use Rattle.m4_engine.specs.Expand.{after_call, called, join_by, join, call_of, bare, collect, call_unless_deep}
-use Rattle.m4_engine.specs.Expand.{is_deep, call_if_room, call_without_list, take_call, take_name, take_other}
+use Rattle.m4_engine.specs.Expand.{with_value, skip_all, skip_line, effected, acted_at, kept_of}
+use Rattle.m4_engine.specs.Expand.{after_call, called, join, call_of, bare, collect}
+use Rattle.m4_engine.specs.Expand.{is_deep, take_call, take_name, take_other}
 use Rattle.m4_engine.specs.Expand.{take_end, take_token, take_front, turn, size_of, calls_left, out_of_bound_at}
 use Rattle.m4_engine.specs.Expand.{expand}
 use Rattle.m4_state.specs.declared.definition.Def.TheVariants as defs
@@ -43,17 +43,20 @@ use Rattle.m4_builtins.specs.Act.{IsPushed, needs_list}
 use Rattle.m4_builtins.proofs.ActKeeps.{act_keeps, act_pushes}
 use Rattle.m4_frozen.specs.Directive.{Directive, Quotes, Comments, Text, Builtin as NamedBuiltin, Diversion}
 use Rattle.m4_frozen.specs.Spells.{SpellsAll, SpellsOne}
-use Rattle.m4_frozen.specs.Denote.{with_directive, definition_named, builtin_or_placeholder}
-use Rattle.m4_engine.specs.Expansion.{diverted_in, mode_with_text, mode_with_token}
+use Rattle.m4_frozen.specs.Denote.{with_directive, definition_named}
+use Rattle.m4_frozen.proofs.Cases.{builtin_or_placeholder}
+use Rattle.m4_engine.specs.Expansion.{diverted_in}
 use Rattle.m4_engine.specs.Args.{argument_of}
-use Rattle.m4_engine.specs.Expand.{mode_after_call, expansion_of, ended_of, expand_input}
-use Rattle.m4_engine.specs.File.{Source, Opened, Unopened, Progress, file_pending, unless_over, read_source}
+use Rattle.m4_engine.specs.Expand.{expansion_of, ended_of, expand_input}
+use Rattle.m4_engine.specs.File.{Source, Opened, Unopened, Progress, file_pending, read_source}
 use Rattle.m4_engine.specs.File.{after_source, after_sources}
 use Rattle.m4_engine.specs.Wraps.{read_saved, next_round, rounds, after_wraps, wrapped_pending, joined_back}
 use Rattle.m4_state.specs.Device.{Script}
 use Rattle.m4_engine.specs.Start.{Start, IsStart, begun}
 use Rattle.m4_engine.proofs.ByRules.{Rules, holds}
 use Rattle.m4_engine.proofs.CallsFall.{falls}
+use Rattle.m4_engine.proofs.Cases.{skip_or_push, join_by, call_unless_deep, call_if_room, call_without_list, unless_over}
+use Rattle.m4_engine.proofs.Cases.{mode_with_text, mode_with_token, mode_after_call}
 
 -- the definitions that a call holds are in order
 abbrev ValidCall : Call → Type 0

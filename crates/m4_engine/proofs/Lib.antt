@@ -1,3 +1,4 @@
+pub mod Cases
 pub mod Bounds
 pub mod Beside
 pub mod MachineIsNesting
@@ -6,6 +7,7 @@ mod Missed
 pub mod TurnsCounted
 pub mod CallsFall
 pub mod ByRules
+pub mod OneExpansion
 pub mod Growth
 pub mod Fronts
 pub mod OnlyGrows

@@ -9,12 +9,13 @@ use Rattle.m4_engine.specs.Expansion.{RunSoFar, Limits as TheLimits, EndReason, 
 use Rattle.m4_engine.specs.File.{Source, Progress, over_of, after_sources}
 use Rattle.m4_engine.specs.Wraps.{rounds, after_wraps}
 use Rattle.m4_engine.specs.Start.{Start, begun}
-use Rattle.m4_engine.specs.Run.{result_by, result_of, saved_after, run_from}
+use Rattle.m4_engine.specs.Run.{result_of, saved_after, run_from}
 use Rattle.m4_engine.specs.Laws.{IsAsDeep}
 use Rattle.m4_engine.proofs.OnePass.{over_wraps}
 use Rattle.m4_engine.proofs.Rounds.{Complete, wraps_complete, more_rounds}
 use Rattle.m4_engine.proofs.Shifts.{after_record}
 use Rattle.m4_engine.proofs.RunsAfter.{Prefixed, sources_follow, rounds_after}
+use Rattle.m4_engine.proofs.Cases.{result_by}
 
 complete_moved : (p q : Progress) → p ≡ q → Complete p → Complete q
 complete_moved p q e c = subst (λ (x : Progress). Complete x) e c

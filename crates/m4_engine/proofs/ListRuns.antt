@@ -11,11 +11,12 @@ use Rattle.m4_engine.specs.declared.role.Role.{Role}
 use Rattle.m4_engine.specs.declared.role.Role.TheVariants.{Blank, Other}
 use Rattle.m4_engine.specs.Nesting.{Turn, GoOn}
 use Rattle.m4_engine.specs.Expansion.{Call, Mode, Collecting, Expansion, Kept, Ended, issued_in, diverted_in}
-use Rattle.m4_engine.specs.Expansion.{mode_with_text, put_text}
+use Rattle.m4_engine.specs.Expansion.{put_text}
 use Rattle.m4_engine.specs.Args.{role_of, take_byte}
 use Rattle.m4_input.proofs.Scanned.{byte_first}
 use Rattle.m4_engine.specs.Collected.{TakesByte, IsLone, HaveRole, IsListToken}
 use Rattle.m4_engine.specs.Collected.{AreListTokens, bytes_in, IsListRun}
+use Rattle.m4_engine.proofs.Cases.{mode_with_text}
 
 -- no token
 pub list_none : (s : State) (m : Bool) (c : Call) (x : List ℕ) → IsListRun s m 0 c c x

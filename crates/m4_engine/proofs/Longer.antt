@@ -8,7 +8,8 @@ use Rattle.m4_input.specs.declared.front.Unended.{Unended}
 use Rattle.m4_input.specs.declared.front.Answer.TheVariants.{Unknown}
 use Rattle.m4_input.specs.Pending.{Pending, text_of, line_of, consumed}
 use Rattle.m4_input.specs.Token.{scan, Taken, Refused, front_by, front_from, token_at}
-use Rattle.m4_input.specs.Paren.{paren_in, paren_from, paren_at}
+use Rattle.m4_input.specs.Paren.{paren_in, paren_at}
+use Rattle.m4_input.proofs.Cases.{paren_from}
 use Rattle.m4_input.specs.Input.{longer, answer_of}
 use Rattle.m4_input.proofs.Consumed.{text_longer, consumed_longer}
 use Rattle.m4_input.proofs.OpenEnd.{scan_stays, scan_fits, paren_in_stays}

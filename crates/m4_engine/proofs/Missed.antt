@@ -15,11 +15,11 @@ use Rattle.m4_engine.specs.Expansion.{Ends}
 use Rattle.m4_engine.specs.Run.{status_of}
 use Rattle.m4_engine.specs.RunSources.{MissedBy, MissedIn, any_unopened, is_unopened}
 use Rattle.m4_engine.specs.RunSteps.{IsBegun}
-use Rattle.m4_engine.specs.Session.{IsLeft, MissingGives, SessionState, how_by, status_at}
-use Rattle.m4_engine.specs.WholeRun.{ending_by}
+use Rattle.m4_engine.specs.Session.{MissingGives, SessionState, how_by, status_at}
 use Rattle.m4_engine.proofs.Reading.{rest_kept}
 use Rattle.m4_engine.proofs.Readers.{or_turn}
 use Rattle.m4_engine.proofs.Whole.{StatusIs, left_over}
+use Rattle.m4_engine.specs.SessionSteps.{IsLeft, ending_by}
 
 or_none : (b : Bool) → (b || false) ≡ b
 or_none true = refl

@@ -10,9 +10,10 @@ use Rattle.m4_builtins.specs.declared.place.Place.{Place}
 use Rattle.m4_builtins.specs.Args.{or_empty}
 use Rattle.m4_builtins.specs.Act.{needs_list}
 use Rattle.m4_engine.specs.Expansion.{Expansion, Kept, place_at}
-use Rattle.m4_engine.specs.Expand.{call, call_of, take_call, take_name, call_without_list}
+use Rattle.m4_engine.specs.Expand.{call, call_of, take_call, take_name}
 use Rattle.m4_engine.specs.Engine.{Engine, outer_of, here_of}
 use Rattle.m4_engine.specs.Turns.{step}
+use Rattle.m4_engine.proofs.Cases.{call_without_list}
 
 -- the file of a place, as two definitions give it
 file_is : (o : Option (List ℕ)) → or_empty o ≡ unwrap_or o []

@@ -8,17 +8,18 @@ use Rattle.m4_engine.specs.Nesting.{Outcome, Halted, Closed}
 use Rattle.m4_engine.specs.Expansion.{RunSoFar, Limits, Expansion, EndReason, Ends, NeedsInput, OutOfBound, Ended}
 use Rattle.m4_engine.specs.Expansion.{with_message}
 use Rattle.m4_engine.specs.Expand.{expand, expansion_of, ended_of, expand_input, out_of_bound_at}
-use Rattle.m4_engine.specs.File.{Source, Opened, Unopened, Progress, file, file_pending, over_by, over_of}
-use Rattle.m4_engine.specs.File.{after_input, read_source, unless_over, after_source, after_sources, cannot_open}
+use Rattle.m4_engine.specs.File.{Source, Opened, Unopened, Progress, read_file, file_pending, over_by, over_of}
+use Rattle.m4_engine.specs.File.{after_input, read_source, after_source, after_sources, cannot_open}
 use Rattle.m4_engine.specs.Wraps.{read_saved, next_round, rounds, after_wraps, joined_back, wrapped_pending, close}
 use Rattle.m4_engine.specs.Start.{Start, begun}
-use Rattle.m4_engine.specs.Run.{limits_of, result_by, result_of, saved_after, run_from}
+use Rattle.m4_engine.specs.Run.{limits_of, result_of, saved_after, run_from}
 use Rattle.m4_engine.specs.Settled.{settled_of, settled_ended, settled_by, settled_in, settled}
 use Rattle.m4_engine.specs.Laws.{IsBeginning, AreSettled}
 use Rattle.m4_engine.specs.Moments.{so_far_in}
 use Rattle.m4_engine.proofs.Growth.{Extends, longer_level, Begins}
 use Rattle.m4_engine.proofs.OnlyGrows.{extends_same, extends_more, says_more, input_keeps}
 use Rattle.m4_engine.proofs.Continues.{law}
+use Rattle.m4_engine.proofs.Cases.{unless_over, result_by}
 
 -- a run after a source has what it had
 unless_keeps : (r : RunSoFar) (o : Option EndReason) (old new : Progress) → Extends r old.so_far → Extends r new.so_far
@@ -120,7 +121,7 @@ over_unless_done OutOfBound n = refl
 abbrev pub Goes : Ended → Ended → Type 0
 Goes e d = ((e.reason ≡ NeedsInput) × Extends e.so_far d.so_far) ⊎ ((d ≡ e) × (e.reason ≢ Ends causes.Done))
 
-made_ended : (o : Outcome Expansion Ended) → so_far_in o ≡ (ended_of o).so_far
+pub made_ended : (o : Outcome Expansion Ended) → so_far_in o ≡ (ended_of o).so_far
 made_ended (Halted d) = refl
 made_ended (Closed s) = refl
 
@@ -130,7 +131,7 @@ ended_goes more (Halted d) o' (inr h) = inr (ap ended_of h.0, h.1)
 ended_goes more (Closed s) o' h = inr (ap ended_of h.1 ∙ ap out_of_bound_at h.3, λ e. cc)
 
 pub input_goes : (limits : Limits) (r : RunSoFar) (name w more : List ℕ)
-    → Goes (expand_input limits r (file_pending name w true)) (file limits r name (w ++ more))
+    → Goes (expand_input limits r (file_pending name w true)) (read_file limits r name (w ++ more))
 input_goes limits r name w more =
     let s : Expansion = expansion_of limits r (file_pending name w true) in
     ended_goes more (expand s) (expand (longer_level more false s)) (law more false s refl)

@@ -9,10 +9,10 @@ use Rattle.m4_engine.specs.declared.stop.Stop.{Stop}
 use Rattle.m4_engine.specs.declared.stop.Stop.TheVariants as stops
 use Rattle.m4_engine.specs.File.{Source, after_source}
 use Rattle.m4_engine.specs.Order.{IsStepOf, BreaksBy, FileBreaks}
-use Rattle.m4_engine.specs.RunSources.{ConsumesOnly, DescribesSource, is_unopened}
+use Rattle.m4_engine.specs.RunSources.{ConsumesOnly, is_unopened}
 use Rattle.m4_engine.specs.RunSteps.{MarksUnopened, WritesInOrder}
-use Rattle.m4_engine.specs.Session.{SessionState, FileGives, IsLeft, IsOpen, MissingGives, progress_of}
-use Rattle.m4_engine.specs.SessionFailures.{MessageWriteFails, ReadFails, SourceFails, WriteFails}
+use Rattle.m4_engine.specs.Session.{SessionState, FileGives, IsOpen, MissingGives, progress_of}
+use Rattle.m4_engine.specs.SessionFailures.{MessageWriteFails, ReadFails, WriteFails}
 use Rattle.m4_engine.specs.SourcesRead.{ReadsSource}
 use Rattle.m4_engine.specs.Writers.{Contents, both, writers}
 use Rattle.m4_engine.proofs.Missed.{missing_exits, opened_exits}
@@ -20,6 +20,8 @@ use Rattle.m4_engine.proofs.Ordering.{opened_told, unopened_told, unread_told}
 use Rattle.m4_engine.proofs.Reached.{file_so, missing_so, unread_so}
 use Rattle.m4_engine.proofs.Readers.{sound_same, source_fails}
 use Rattle.m4_engine.proofs.Sources.{opened_described, same_taken, unopened_described, unread_goes}
+use Rattle.m4_engine.specs.SessionSteps.{IsLeft, SourceFails}
+use Rattle.m4_engine.proofs.Cases.{DescribesSource}
 
 on_ok : {A E P : Type 0} (r : Result A E) → P → OnOk r P
 on_ok (Ok x) p = p

@@ -28,14 +28,15 @@ use Rattle.m4_engine.specs.Expansion.{place_at, with_call, reading}
 use Rattle.m4_engine.specs.declared.role.Role.{Role}
 use Rattle.m4_engine.specs.declared.role.Role.TheVariants.{Opening, Closing, Separator, Blank, Other}
 use Rattle.m4_engine.specs.Args.{role_of, take_closing, take_byte}
-use Rattle.m4_engine.specs.Expand.{skip_all, skip_line, skip_or_push, effected, acted_at, kept_of, after_call, called}
-use Rattle.m4_engine.specs.Expand.{join_by, join, call_of, bare, collect, call_unless_deep, is_deep, call_if_room}
-use Rattle.m4_engine.specs.Expand.{call, call_without_list, take_call, take_name, take_other, take_end, take_token}
+use Rattle.m4_engine.specs.Expand.{skip_all, skip_line, effected, acted_at, kept_of, after_call, called}
+use Rattle.m4_engine.specs.Expand.{join, call_of, bare, collect, is_deep}
+use Rattle.m4_engine.specs.Expand.{call, take_call, take_name, take_other, take_end, take_token}
 use Rattle.m4_engine.specs.Expand.{take_front, turn, size_of, calls_left, out_of_bound_at, expand}
 use Rattle.m4_engine.specs.Expand.{expansion_of, ended_of, expand_input}
 use Rattle.m4_engine.proofs.Growth.{Extends}
 use Rattle.m4_engine.proofs.ByRules.{Rules, holds}
 use Rattle.m4_engine.proofs.CallsFall.{falls}
+use Rattle.m4_engine.proofs.Cases.{skip_or_push, join_by, call_unless_deep, call_if_room, call_without_list}
 
 pub extends_same : (r : RunSoFar) → Extends r r
 extends_same r = record { more = []; output = sym (append-nil r.output); reported = []; messages = sym (append-nil r.messages) }

@@ -26,18 +26,18 @@ use Rattle.m4_engine.specs.File.{after_sources}
 use Rattle.m4_engine.specs.Wraps.{wrapped_pending, joined_back, after_wraps, close}
 use Rattle.m4_engine.specs.Start.{Start, begun}
 use Rattle.m4_engine.specs.Run.{limits_of}
-use Rattle.m4_engine.specs.RunSources.{DescribesSource}
 use Rattle.m4_engine.specs.Session.{SessionState, progress_of, how_over, IsOpen}
-use Rattle.m4_engine.specs.Session.{answer_by, session_after_wraps, MissingGives, GoesTo, is_saved}
+use Rattle.m4_engine.specs.Session.{session_after_wraps, MissingGives, is_saved}
 use Rattle.m4_engine.specs.RunSteps.{BeginGives}
-use Rattle.m4_engine.specs.WholeRun.{ending_by}
 use Rattle.m4_engine.specs.Writers.{Contents, writers}
 use Rattle.m4_engine.specs.Expands.{StepBreaks, StepBreaksBy, progress_before}
 use Rattle.m4_engine.proofs.Begins.{nothing_begun}
 use Rattle.m4_engine.proofs.GoingOn.{written_after, sources_after, wraps_after}
-use Rattle.m4_engine.proofs.Sessions.{closed_rest, taken_file, may_end}
+use Rattle.m4_engine.proofs.Sessions.{closed_rest, taken_file, may_end, session_of}
 use Rattle.m4_engine.proofs.Sources.{described_suit, Suits, so_of, unopened_is, none_taken}
 use Rattle.m4_engine.proofs.Starts.{begun_is}
+use Rattle.m4_engine.specs.SessionSteps.{answer_by, GoesTo, ending_by}
+use Rattle.m4_engine.proofs.Cases.{DescribesSource}
 
 -- ---- by the answer
 
@@ -112,18 +112,6 @@ silent_round old w l n h i = λ o m out messages f g.
     )
 
 -- ---- a file and a round
-
--- the session as the machine and the rest of it give it
-abbrev session_of : Engine → Bool → Option Cause → Bool → SessionState
-session_of e any_missing over finished = record {
-  limits = e.limits;
-  state = e.state;
-  saved = e.saved;
-  calls = e.calls;
-  any_missing = any_missing;
-  over = over;
-  finished = finished;
-}
 
 file_breaks : (e : Engine) (any_missing : Bool) (name : List ℕ) (before after : Option Script) (w : Contents)
     → StepBreaks e (unread_file name).pending before after w

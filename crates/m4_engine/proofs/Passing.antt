@@ -1,12 +1,8 @@
 -- Passing: tokens that are text are put where they go at once as turns would put them there.
 use Rattle.std.specs.Prelude.{◌||◌}
-use Rattle.std.specs.Cmp.{int_cmp_total, tied_itself}
-use Rattle.std.specs.Ordering.{int_cmp}
-use Rattle.std.specs.FinMap.{put}
-use Rattle.std.specs.FinMap.Entries.{by_order, find-put}
-use Rattle.m4_state.specs.State.{State, Diversion, appended, with_text, text_at, holds_text}
-use Rattle.std.proofs.Common.{◌≡◌, ◌⊎◌, inl, inr, Bool, true, false, cond, ℕ, zero, suc, ℤ, pos, negsuc, Ordering, Less}
-use Rattle.std.proofs.Common.{Equal, Greater, unwrap_or, ◌+◌, ◌-◌, ◌<◌, ◌≤◌, List, [], ◌∷◌, ◌++◌, Option, None, take}
+use Rattle.m4_state.specs.State.{State, appended, holds_text}
+use Rattle.std.proofs.Common.{◌≡◌, ◌⊎◌, inl, inr, Bool, true, false, cond, ℕ, zero, suc, ℤ, pos, negsuc}
+use Rattle.std.proofs.Common.{◌+◌, ◌-◌, ◌<◌, ◌≤◌, List, [], ◌∷◌, ◌++◌, Option, None, take}
 use Rattle.std.proofs.Common.{drop, length, refl, sym, ap, ◌∙◌, subst, arith, append-nil, append_assoc, length-append}
 use Rattle.std.proofs.Math.Seq.{take-add}
 use Rattle.std.proofs.lemmas.List.{length-drop}
@@ -40,6 +36,7 @@ use Rattle.m4_engine.proofs.Longer.{found_longer}
 use Rattle.m4_engine.proofs.LoopKeeps.{turns_of, turn_falls}
 use Rattle.m4_engine.proofs.Measures.{measure, measure_falls}
 use Rattle.m4_engine.proofs.Moments.{on_from}
+use Rattle.m4_state.proofs.CallerLaws.{appended-twice}
 
 -- an engine outside of calls
 abbrev at_top : Engine → Engine
@@ -133,41 +130,6 @@ both_reach e e1 e2 p p1 p2 f a b =
     }
 
 -- ---- two texts that are put one after the other are put as one
-
-put-put : (n : ℤ) (v w : List ℕ) (ds : List Diversion) → put int_cmp n w (put int_cmp n v ds) ≡ put int_cmp n w ds
-put-put n v w [] = rw (tied_itself int_cmp_total n) refl
-put-put n v w (d ∷ ds) = by (int_cmp n d.0) refl (put-put n v w ds)
-  where
-    by : (r : Ordering) → int_cmp n d.0 ≡ r → put int_cmp n w (put int_cmp n v ds) ≡ put int_cmp n w ds
-        → put int_cmp n w (by_order r ((n, v) ∷ d ∷ ds) ((d.0, v) ∷ ds) (d ∷ put int_cmp n v ds))
-        ≡ by_order r ((n, w) ∷ d ∷ ds) ((d.0, w) ∷ ds) (d ∷ put int_cmp n w ds)
-    by Less e rest = rw (tied_itself int_cmp_total n) refl
-    by Equal e rest = rw e refl
-    by Greater e rest = rw e (ap (λ (xs : List Diversion). d ∷ xs) rest)
-
-text_at-put : (n : ℤ) (v : List ℕ) (ds : List Diversion) → text_at (put int_cmp n v ds) n ≡ v
-text_at-put n v ds =
-    ap (λ (o : Option (List ℕ)). unwrap_or o []) (find-put int_cmp int_cmp_total n n v ds)
-    ∙ rw (tied_itself int_cmp_total n) refl
-
-with_text-twice : (n : ℤ) (a b : List ℕ) (ds : List Diversion) → with_text (with_text ds n a) n b ≡ with_text ds n (a ++ b)
-with_text-twice n [] b ds = refl
-with_text-twice n (x ∷ a) [] ds = ap (with_text ds n) (sym (append-nil (x ∷ a)))
-with_text-twice n (x ∷ a) (y ∷ b) ds =
-    rw (text_at-put n (text_at ds n ++ x ∷ a) ds, put-put n (text_at ds n ++ x ∷ a) ((text_at ds n ++ x ∷ a) ++ y ∷ b) ds)
-    (ap (λ (text : List ℕ). put int_cmp n text ds) (append_assoc (text_at ds n) (x ∷ a) (y ∷ b)))
-
-appended-twice : (s : State) (a b : List ℕ) → appended (appended s a) b ≡ appended s (a ++ b)
-appended-twice s a b = by (holds_text s.current)
-  where
-    by : (h : Bool) → record s {
-      diversions =
-          cond h (with_text (cond h (with_text s.diversions s.current a) s.diversions) s.current b)
-          (cond h (with_text s.diversions s.current a) s.diversions);
-    }
-        ≡ record s { diversions = cond h (with_text s.diversions s.current (a ++ b)) s.diversions }
-    by true = ap (λ (ds : List Diversion). record s { diversions = ds }) (with_text-twice s.current a b s.diversions)
-    by false = refl
 
 appended-none : (s : State) → appended s [] ≡ s
 appended-none s = by (holds_text s.current)

@@ -15,7 +15,7 @@ use Rattle.m4_engine.specs.declared.source.Source.{Source as RunSource}
 use Rattle.m4_engine.specs.declared.source.Source.TheVariants as sources
 use Rattle.m4_engine.specs.Expansion.{RunSoFar, Limits, EndReason, Ends, NeedsInput, OutOfBound, Ended}
 use Rattle.m4_engine.specs.Expand.{expand_input}
-use Rattle.m4_engine.specs.File.{Source, Opened, Unopened, Progress, file, file_pending, over_of, after_source}
+use Rattle.m4_engine.specs.File.{Source, Opened, Unopened, Progress, read_file, file_pending, over_of, after_source}
 use Rattle.m4_engine.specs.File.{after_sources}
 use Rattle.m4_engine.specs.RunSources.{script_of}
 use Rattle.m4_engine.specs.Settled.{SettledSoFar, settled_ended, settled_by, settled_in}
@@ -186,7 +186,7 @@ over_reason NeedsInput c e = cc
 over_reason OutOfBound c e = cc
 
 over_is : (s : SessionState) (name x : List ℕ) → IsOpen s
-    → (after_source s.limits (Opened name x) (progress_of s)).over ≡ over_of (file s.limits (progress_of s).so_far name x).reason
+    → (after_source s.limits (Opened name x) (progress_of s)).over ≡ over_of (read_file s.limits (progress_of s).so_far name x).reason
 over_is s name x l = ap (λ (o : Option Cause). (after_source s.limits (Opened name x) (record (progress_of s) { over = how_over o })).over) l.over
 
 -- the file ended the run, whatever the cause, unless a device or an allocation failed
@@ -226,10 +226,10 @@ module _ {R : Type 0} (script : R → Option Script) (name : List ℕ) (before l
     where
       by_end : IsAtEnd (script later)
           → (after_source old.limits (Opened name (x ++ [])) (progress_of old)).over ≡ Some (Ends cause)
-          → (after_source old.limits (Opened name (x ++ [])) (progress_of old)).so_far ≡ (file old.limits (progress_of old).so_far name (x ++ [])).so_far
+          → (after_source old.limits (Opened name (x ++ [])) (progress_of old)).so_far ≡ (read_file old.limits (progress_of old).so_far name (x ++ [])).so_far
           → w.out_new ≡ with_bytes w.out_old ((after_source old.limits (Opened name (x ++ [])) (progress_of old)).so_far).output
           → w.messages_new ≡ with_bytes w.messages_old ((after_source old.limits (Opened name (x ++ [])) (progress_of old)).so_far).messages
-          → Goes (settled_part old name x) (file old.limits (progress_of old).so_far name (x ++ [])) → Within
+          → Goes (settled_part old name x) (read_file old.limits (progress_of old).so_far name (x ++ [])) → Within
       by_end a over same o m (inl g) = (
         name,
         x,

@@ -13,12 +13,12 @@ use Rattle.m4_engine.specs.declared.stop.Stop.{Stop}
 use Rattle.m4_engine.specs.declared.stop.Stop.TheVariants as stops
 use Rattle.m4_engine.specs.RunSources.{AllPairs, is_unopened, any_unopened, HasFailed, is_sound, AnyFailed}
 use Rattle.m4_engine.specs.RunSources.{ReadersFailBy, ConsumesOnly, AllConsumeOnly}
-use Rattle.m4_engine.specs.Session.{SessionState, FileGives, EndGives, CloseGives}
-use Rattle.m4_engine.specs.SessionFailures.{ReadFails, SourceFails, SourcesFail}
-use Rattle.m4_engine.specs.WholeRun.{ending_by}
+use Rattle.m4_engine.specs.Session.{SessionState, FileGives, EndGives}
+use Rattle.m4_engine.specs.SessionFailures.{ReadFails}
 use Rattle.m4_engine.specs.Writers.{Contents, Three}
 use Rattle.m4_engine.proofs.Sessions.{close_ends}
 use Rattle.m4_engine.proofs.Sources.{same_taken}
+use Rattle.m4_engine.specs.SessionSteps.{CloseGives, SourceFails, SourcesFail, ending_by}
 
 -- a source that no call was made on is sound
 pub sound_same : {R : Type 0} (failures : R → ℕ) (x : RunSource R) → is_sound failures x x

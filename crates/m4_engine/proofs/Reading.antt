@@ -7,17 +7,19 @@ use Rattle.std.proofs.lemmas.List.{drop-set-lt, drop-drop}
 use Rattle.m4_state.proofs.CallerLaws.{with_bytes-append, with_bytes-nil}
 use Rattle.m4_state.specs.Device.{Script, with_bytes}
 use Rattle.m4_engine.specs.declared.source.Source.{Source as RunSource}
-use Rattle.m4_engine.specs.RunSources.{source_of, ExtendsSource, ExtendSources, DescribeSources, DescribesSource}
+use Rattle.m4_engine.specs.RunSources.{source_of, ExtendsSource, ExtendSources, DescribeSources}
 use Rattle.m4_engine.specs.declared.stop.Stop.{Stop}
 use Rattle.m4_engine.specs.Expansion.{Limits, RunSoFar}
 use Rattle.m4_engine.specs.Order.{IsStepOf, InSources, Breaks, BreaksBy}
 use Rattle.m4_engine.proofs.OnePass.{sources_keep, over_sources}
 use Rattle.m4_engine.specs.File.{Source, Progress, after_source, after_sources}
-use Rattle.m4_engine.specs.Session.{SessionState, progress_of, IsOpen, Completed, GoesTo}
+use Rattle.m4_engine.specs.Session.{SessionState, progress_of, IsOpen, Completed}
 use Rattle.m4_engine.specs.Writers.{Contents, writers}
 use Rattle.m4_engine.proofs.GoingOn.{after, sources_after, written_after, Within, step_stops, all_made}
 use Rattle.m4_engine.proofs.Growth.{Extends}
 use Rattle.m4_engine.proofs.Ordering.{same_breaks}
+use Rattle.m4_engine.specs.SessionSteps.{GoesTo}
+use Rattle.m4_engine.proofs.Cases.{DescribesSource}
 
 -- some of the sources were read: so much was written, and the rest of the run is the rest of the sources
 pub record Between (ss : List Source) (i : ℕ) (s0 s : SessionState) (w : Contents) : Type 0 where

@@ -1,10 +1,10 @@
 -- Rounds: the rounds of saved texts have no bound that is ever reached.
 use Rattle.std.proofs.Common.{◌≡◌, ◌⊎◌, inl, inr, ⊎_elim, ℕ, zero, suc, ◌-◌, ◌<◌, ◌≤◌, List, [], ◌∷◌, Option, Some}
-use Rattle.std.proofs.Common.{None, refl, sym, ap, subst, arith}
+use Rattle.std.proofs.Common.{None, refl, sym, ap, ◌∙◌, subst, arith}
 use Rattle.m4_engine.specs.Expansion.{Limits as TheLimits, EndReason}
 use Rattle.m4_engine.specs.File.{Progress}
 use Rattle.m4_engine.specs.Wraps.{read_saved, next_round, rounds, after_wraps, joined_back, wrapped_pending}
-use Rattle.m4_engine.specs.Laws.{WrapsRules}
+use Rattle.m4_engine.specs.Laws.{FollowsRounds, WrapsRules}
 use Rattle.m4_engine.proofs.SavesCount.{input_saves}
 use Rattle.m4_engine.proofs.RunsAfter.{over_rounds}
 
@@ -81,5 +81,33 @@ next_rule limits p None (x ∷ xs) =
     (round_saves limits (x ∷ xs) p) in
     sym (more_rounds limits.calls (suc limits.calls) limits q (omega arith) c)
 
+-- a function that follows the rounds gives the run itself if no text is saved
+follows_stays : (limits : TheLimits) (f : Progress → Progress) → FollowsRounds limits f → (p : Progress)
+    → (p.so_far).saved ≡ [] → f p ≡ p
+follows_stays limits f follows p e = follows p ∙ complete_by p.over f limits p refl e
+
+follows_next : (n : ℕ) (limits : TheLimits) (f : Progress → Progress) → FollowsRounds limits f
+    → ((q : Progress) → limits.calls - (q.so_far).calls < n → f q ≡ rounds n limits q)
+    → (v : Option EndReason) (saved : List (List ℕ)) (p : Progress) → limits.calls - (p.so_far).calls ≤ n
+    → next_round f limits v saved p ≡ next_round (rounds n limits) limits v saved p
+follows_next n limits f follows g (Some x) saved p k = refl
+follows_next n limits f follows g None [] p k = refl
+follows_next n limits f follows g None (x ∷ xs) p k =
+    let q : Progress = read_saved limits (x ∷ xs) p in
+    ⊎_elim
+    (λ s. follows_stays limits f follows q s ∙ sym (complete_stays n limits q (inr s)))
+    (λ (s : limits.calls - (q.so_far).calls < limits.calls - (p.so_far).calls). g q (omega arith))
+    (round_saves limits (x ∷ xs) p)
+
+follows_rounds : (n : ℕ) (limits : TheLimits) (f : Progress → Progress) → FollowsRounds limits f → (p : Progress)
+    → limits.calls - (p.so_far).calls < n → f p ≡ rounds n limits p
+follows_rounds zero limits f follows p k = absurd (omega arith)
+follows_rounds (suc n) limits f follows p k =
+    follows p
+    ∙ follows_next n limits f follows (λ q l. follows_rounds n limits f follows q l) p.over (p.so_far).saved p (omega arith)
+
 pub wraps_rules : WrapsRules
-wraps_rules = λ limits p. next_rule limits p p.over (p.so_far).saved
+wraps_rules = λ limits. (
+  λ p. next_rule limits p p.over (p.so_far).saved,
+  λ f follows p. follows_rounds (suc limits.calls) limits f follows p (omega arith),
+)

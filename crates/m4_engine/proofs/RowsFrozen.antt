@@ -4,7 +4,7 @@ use Rattle.std.specs.Prelude.{codes}
 use Rattle.std.specs.Fmt.{digits}
 use Rattle.std.specs.Int.{int_wrap}
 use Rattle.m4_state.specs.Device.{Script}
-use Rattle.m4_frozen.specs.FaultAt.{as_offset}
+use Rattle.m4_frozen.specs.Blocks.{as_offset}
 use Rattle.m4_frozen.specs.ReaderSteps as steps
 use Rattle.m4_frozen.specs.declared.fault.FrozenKind.TheVariants as kinds
 use Rattle.m4_engine.specs.declared.ending.Cause.TheVariants as causes

@@ -17,35 +17,29 @@ use Rattle.m4_engine.specs.declared.source.Source.TheVariants as sources
 use Rattle.m4_engine.specs.Nesting.{Outcome, Halted, Closed}
 use Rattle.m4_engine.specs.Expansion.{RunSoFar, Limits, Expansion, EndReason, Ends, NeedsInput, OutOfBound, Ended}
 use Rattle.m4_engine.specs.Expand.{expand, expansion_of, ended_of, expand_input}
-use Rattle.m4_engine.specs.File.{Source, Opened, Unopened, Progress, file, file_pending, over_of, after_source}
+use Rattle.m4_engine.specs.File.{Source, Opened, Unopened, Progress, read_file, file_pending, over_of, after_source}
 use Rattle.m4_engine.specs.File.{after_sources, cannot_open}
 use Rattle.m4_engine.specs.Start.{Start, From, begun}
 use Rattle.m4_engine.specs.Run.{limits_of}
 use Rattle.m4_engine.specs.Settled.{SettledSoFar, settled_in}
 use Rattle.m4_engine.specs.Laws.{IsBeginning}
-use Rattle.m4_engine.specs.Session.{SessionState, progress_of, how_over, session_from, IsOpen, EndGives, CloseGives}
+use Rattle.m4_engine.specs.Session.{SessionState, progress_of, how_over, session_from, IsOpen, EndGives}
 use Rattle.m4_engine.specs.RunSteps.{BeginGives, IsBegun}
-use Rattle.m4_engine.specs.Session.{IsLeft}
 use Rattle.m4_engine.specs.Writers.{Contents, Three, writers, HasWritten}
-use Rattle.m4_engine.specs.WholeRun.{ending_by}
 use Rattle.m4_engine.specs.OnePass.{IsRead, Reaches, AreRead, settled_after, ExactAtFault, Reached, OnePassBy, OnePass}
 use Rattle.m4_engine.specs.OnePass.{left_after, EndsOrIsLast, EndedBy}
 use Rattle.m4_engine.specs.SourcesRead.{SourcesGive, RunReached}
-use Rattle.m4_engine.specs.Moments.{so_far_in}
 use Rattle.m4_engine.proofs.Growth.{Extends, longer_level, Begins}
 use Rattle.m4_engine.proofs.Continues.{law}
-use Rattle.m4_engine.proofs.OnePass.{over_sources}
+use Rattle.m4_engine.proofs.OnePass.{over_sources, made_ended}
 use Rattle.m4_engine.proofs.Blockwise.{more_after}
 use Rattle.m4_engine.proofs.GoingOn.{sources_after}
 use Rattle.m4_engine.proofs.Reached.{in_front, in_front_is, asked_further, ended_map}
 use Rattle.m4_engine.proofs.Sessions.{close_ends}
 use Rattle.m4_engine.proofs.Starts.{begun_is}
+use Rattle.m4_engine.specs.SessionSteps.{CloseGives, IsLeft, ending_by}
 
 -- ---- a file after which the run goes on is open up to its last byte
-
-made_ended : (o : Outcome Expansion Ended) → so_far_in o ≡ (ended_of o).so_far
-made_ended (Halted d) = refl
-made_ended (Closed s) = refl
 
 -- it made no less
 abbrev Before : Ended → Ended → Type 0
@@ -58,12 +52,12 @@ end_needs (Closed s) o' h w =
     let e : OutOfBound ≡ Ends causes.Done = sym (ap (λ (x : Outcome Expansion Ended). (ended_of x).reason) h.1) ∙ w in
     cc
 
-ended_needs : (limits : Limits) (r : RunSoFar) (name x : List ℕ) → (file limits r name x).reason ≡ Ends causes.Done
-    → Before (expand_input limits r (file_pending name x true)) (file limits r name x)
+ended_needs : (limits : Limits) (r : RunSoFar) (name x : List ℕ) → (read_file limits r name x).reason ≡ Ends causes.Done
+    → Before (expand_input limits r (file_pending name x true)) (read_file limits r name x)
 ended_needs limits r name x w =
     let s : Expansion = expansion_of limits r (file_pending name x true) in
-    let P : List ℕ → Type 0 = λ y. (file limits r name y).reason ≡ Ends causes.Done
-    → Before (expand_input limits r (file_pending name x true)) (file limits r name y) in
+    let P : List ℕ → Type 0 = λ y. (read_file limits r name y).reason ≡ Ends causes.Done
+    → Before (expand_input limits r (file_pending name x true)) (read_file limits r name y) in
     subst P (append-nil x) (λ v. end_needs (expand s) (expand (longer_level [] false s)) (law [] false s refl) v) w
 
 -- only the end of an input lets a run go on

@@ -8,11 +8,12 @@ use Rattle.m4_engine.specs.Nesting.{Outcome, Halted, Closed}
 use Rattle.m4_engine.specs.Expansion.{RunSoFar, Limits, Expansion, EndReason, Ends, Ended}
 use Rattle.m4_engine.specs.Expand.{expand, expansion_of, ended_of, expand_input, out_of_bound_at}
 use Rattle.m4_engine.specs.File.{Source, Opened, Unopened, Progress, file_pending, over_of, after_input, read_source}
-use Rattle.m4_engine.specs.File.{unless_over, after_source, after_sources, cannot_open}
+use Rattle.m4_engine.specs.File.{after_source, after_sources, cannot_open}
 use Rattle.m4_engine.specs.Wraps.{read_saved, next_round, rounds, wrapped_pending, joined_back}
 use Rattle.m4_engine.proofs.Beside.{Fits}
 use Rattle.m4_engine.proofs.Shifts.{after_record, same_after}
 use Rattle.m4_engine.proofs.OnePass.{over_sources}
+use Rattle.m4_engine.proofs.Cases.{unless_over}
 
 -- a run that is over takes no further round
 pub over_rounds : (n : ℕ) (limits : Limits) (p : Progress) (h : EndReason) → p.over ≡ Some h → rounds n limits p ≡ p

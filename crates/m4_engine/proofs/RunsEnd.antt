@@ -12,9 +12,10 @@ use Rattle.m4_input.specs.declared.front.Answer.{Answer}
 use Rattle.m4_input.specs.declared.front.Answer.TheVariants.{Yes, No, Unknown}
 use Rattle.m4_input.specs.Ascii.{is_letter}
 use Rattle.m4_input.specs.Pending.{Pending, text_of, line_length}
-use Rattle.m4_input.specs.Token.{starts_with, comment_found, string_found, kind_by, scan_kind, scan, Front, Taken}
+use Rattle.m4_input.specs.Token.{starts_with, scan_kind, scan, Front, Taken}
 use Rattle.m4_input.specs.Token.{Refused, More, front_by, front_from, token_at}
-use Rattle.m4_input.specs.Paren.{answer_by, paren_in, paren_from, paren_at}
+use Rattle.m4_input.specs.Paren.{paren_in, paren_at}
+use Rattle.m4_input.proofs.Cases.{kind_by, answer_by, paren_from, comment_found, string_found}
 use Rattle.m4_state.specs.State.{top_of}
 use Rattle.m4_input.specs.declared.pushed.Pushed.{Pushed}
 use Rattle.m4_input.specs.declared.pushed.Pushed.TheVariants as pushes
@@ -27,20 +28,21 @@ use Rattle.m4_engine.specs.Expansion.{Ends, Ended, place_at, with_call, reading}
 use Rattle.m4_engine.specs.declared.role.Role.{Role}
 use Rattle.m4_engine.specs.declared.role.Role.TheVariants.{Opening, Closing, Separator, Blank, Other}
 use Rattle.m4_engine.specs.Args.{role_of, take_closing, take_byte}
-use Rattle.m4_engine.specs.Expand.{with_value, skip_all, skip_line, skip_or_push, effected, kept_of, after_call}
-use Rattle.m4_engine.specs.Expand.{called, join_by, join, call_of, bare, collect, call_unless_deep, is_deep}
-use Rattle.m4_engine.specs.Expand.{call_if_room, call_without_list, take_call, take_name, take_other, take_end}
+use Rattle.m4_engine.specs.Expand.{with_value, skip_all, skip_line, effected, kept_of, after_call}
+use Rattle.m4_engine.specs.Expand.{called, join, call_of, bare, collect, is_deep}
+use Rattle.m4_engine.specs.Expand.{take_call, take_name, take_other, take_end}
 use Rattle.m4_engine.specs.Expand.{take_token, take_front, unended_cause, turn, size_of, calls_left, out_of_bound_at}
 use Rattle.m4_engine.specs.Expand.{expand}
-use Rattle.m4_engine.specs.Expand.{mode_after_call, expansion_of, ended_of, expand_input}
+use Rattle.m4_engine.specs.Expand.{expansion_of, ended_of, expand_input}
 use Rattle.m4_engine.specs.declared.options.Options.{Options}
-use Rattle.m4_engine.specs.File.{Source, Opened, Unopened, Progress, file_pending, over_by, over_of, unless_over}
+use Rattle.m4_engine.specs.File.{Source, Opened, Unopened, Progress, file_pending, over_by, over_of}
 use Rattle.m4_engine.specs.File.{read_source, after_source, after_sources}
 use Rattle.m4_engine.specs.Wraps.{read_saved, next_round, rounds, after_wraps, wrapped_pending, joined_back}
 use Rattle.m4_engine.specs.Start.{Start, From, Faulty, begun}
-use Rattle.m4_engine.specs.Run.{limits_of, result_by, saved_after, run_from}
+use Rattle.m4_engine.specs.Run.{limits_of, saved_after, run_from}
 use Rattle.m4_engine.proofs.ByRules.{Rules, holds}
 use Rattle.m4_engine.proofs.CallsFall.{falls}
+use Rattle.m4_engine.proofs.Cases.{skip_or_push, join_by, call_unless_deep, call_if_room, call_without_list, unless_over, result_by, mode_after_call}
 
 -- an end that a cause makes
 abbrev IsCaused : EndReason → Type 0
@@ -63,11 +65,11 @@ Outs : Mode → Outcome Expansion Ended → Type 0
 Outs m (Halted d) = IsCaused d.reason
 Outs m (Closed u) = (is_outside u.mode ≡ is_outside m) × ((u.pending).may_follow ≡ false)
 
-text_outside : (x : List ℕ) (m : Mode) → is_outside (Rattle.m4_engine.specs.Expansion.mode_with_text x m) ≡ is_outside m
+text_outside : (x : List ℕ) (m : Mode) → is_outside (Rattle.m4_engine.proofs.Cases.mode_with_text x m) ≡ is_outside m
 text_outside x Outside = refl
 text_outside x (Collecting c) = refl
 
-token_outside : (d : Def) (m : Mode) → is_outside (Rattle.m4_engine.specs.Expansion.mode_with_token d m) ≡ is_outside m
+token_outside : (d : Def) (m : Mode) → is_outside (Rattle.m4_engine.proofs.Cases.mode_with_token d m) ≡ is_outside m
 token_outside d Outside = refl
 token_outside d (Collecting c) = refl
 

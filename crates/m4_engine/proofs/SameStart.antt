@@ -2,6 +2,7 @@
 use Rattle.std.proofs.Common.{◌≡◌, inl, inr, ⊎_elim, ◌↔◌, ℕ, Bool, true, false, List, Option, Some, None, refl, sym}
 use Rattle.std.proofs.Common.{ap, ◌∙◌, subst}
 use Rattle.m4_state.specs.Device.{Script}
+use Rattle.m4_state.specs.State.{State}
 use Rattle.m4_frozen.specs.declared.loading.Loaded.{Loaded}
 use Rattle.m4_frozen.specs.Directive.{Directive}
 use Rattle.m4_frozen.specs.Spells.{Spells}
@@ -12,7 +13,7 @@ use Rattle.m4_frozen.specs.ReaderSteps.{fault_of}
 use Rattle.m4_frozen.proofs.Answered as frozen
 use Rattle.m4_engine.specs.declared.options.Options.{Options}
 use Rattle.m4_engine.specs.File.{Source}
-use Rattle.m4_engine.specs.Start.{Start, From, Faulty, frozen_file, IsStart, reloaded, start_by, start_from, start_of}
+use Rattle.m4_engine.specs.Start.{Start, From, Faulty, StartsFrom, frozen_file, IsStart, reloaded, start_by, start_from, start_of}
 use Rattle.m4_engine.specs.Run.{run, run_from}
 
 -- bytes that directives spell start from what these denote
@@ -48,6 +49,15 @@ starts_so prefix (Some file) = starts_from prefix file.fails file.bytes
 
 pub one_start : (prefix : Bool) (frozen : Option Script) (start : Start) → IsStart prefix frozen start ↔ (start ≡ start_of prefix frozen)
 one_start prefix frozen start = (is_start prefix frozen start, λ e. subst (IsStart prefix frozen) (sym e) (starts_so prefix frozen))
+
+pub one_state : (prefix : Bool) (frozen : Option Script) (s : State) (issued : List ℕ)
+    → StartsFrom prefix frozen (From s issued) ↔ (start_of prefix frozen ≡ From s issued)
+one_state prefix None s issued = (λ e. sym e, λ e. sym e)
+one_state prefix (Some file) s issued = (
+  λ h. sym (is_start prefix (Some file) (From s issued) (inl h)),
+  λ e. ⊎_elim (λ h. h) (λ h. let other : From s issued ≡ Faulty h.0 = h.2 in cc)
+      (subst (IsStart prefix (Some file)) e (starts_so prefix (Some file))),
+)
 
 pub same_denotation : (o : Options) (a b : List ℕ) (ds es : List Directive) (sources : List Source) → Spells ds a
     → Spells es b → denote ds ≡ denote es → run o (Some (frozen_file a)) sources ≡ run o (Some (frozen_file b)) sources

@@ -9,7 +9,8 @@ use Rattle.std.proofs.lemmas.List.Sums.{sum_by-cons}
 use Rattle.m4_state.specs.State.{State}
 use Rattle.m4_input.specs.Ascii.{newline, open_parenthesis}
 use Rattle.m4_input.specs.Pending.{Pending, text_of, consumed, newlines_in}
-use Rattle.m4_input.specs.Paren.{answer_by, paren_in, paren_from, paren_at}
+use Rattle.m4_input.specs.Paren.{paren_in, paren_at}
+use Rattle.m4_input.proofs.Cases.{answer_by, paren_from}
 use Rattle.m4_input.specs.declared.front.Answer.{Answer}
 use Rattle.m4_input.specs.Input.{answer_of, longer}
 use Rattle.m4_input.proofs.Parts.{drop_parts}
@@ -18,7 +19,7 @@ use Rattle.m4_builtins.specs.Act.{needs_list}
 use Rattle.m4_engine.specs.declared.turned.Turned.{Turned}
 use Rattle.m4_builtins.specs.declared.fault.BuiltinFault.{BuiltinFault as TurnFault}
 use Rattle.m4_engine.specs.Expansion.{Call, place_at, issued, reading, put_text}
-use Rattle.m4_engine.specs.Expand.{call, call_of, take_call, call_without_list, take_name}
+use Rattle.m4_engine.specs.Expand.{call, call_of, take_call, take_name}
 use Rattle.m4_engine.specs.Lookahead.{Recognises, IsExpansion, IsCalled}
 use Rattle.m4_engine.specs.Engine.{Engine, outer_of, here_of, allows_call, configuration, put_in, with_text}
 use Rattle.m4_engine.specs.Engine.{with_one_call, with_made, is_deep_in}
@@ -36,6 +37,7 @@ use Rattle.m4_engine.proofs.Acts.{moves_by, called_skips}
 use Rattle.m4_engine.proofs.Bare.{bare_goes}
 use Rattle.m4_engine.proofs.Longer.{paren_longer}
 use Rattle.m4_engine.proofs.Named.{named}
+use Rattle.m4_engine.proofs.Cases.{call_without_list}
 
 -- the limits allow a call
 pub room_allows : (e : Engine) → allows_call e ≡ true → (nat_lt e.calls (e.limits).calls ≡ true) × (is_deep_in e ≡ false)

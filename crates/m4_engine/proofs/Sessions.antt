@@ -27,14 +27,15 @@ use Rattle.m4_engine.proofs.Longer.{closed_same, nothing_more, nothing_follows}
 use Rattle.m4_engine.specs.Expands.{made_before, input_expansion, Expanded, LastAsked, ReadSo, Fell, Expands, ReadsBy}
 use Rattle.m4_engine.specs.Expands.{at_rest}
 use Rattle.m4_engine.specs.Session.{SessionState, progress_of, written, how_over, IsOpen, Completed, FileDone}
-use Rattle.m4_engine.specs.Session.{FileAsked, FileEnded, FileBroke, FileFell, FileGives, BrokeOff, WrapsGive}
-use Rattle.m4_engine.specs.Session.{round_of, answer_by, over_after, session_after_wraps, last_state, Unfinished}
-use Rattle.m4_engine.specs.Session.{EndGives, FinishGives, FreezeBegan, FreezeGives, CloseGives}
+use Rattle.m4_engine.specs.Session.{FileAsked, FileEnded, FileBroke, FileFell, FileGives}
+use Rattle.m4_engine.specs.Session.{session_after_wraps, last_state, Unfinished}
+use Rattle.m4_engine.specs.Session.{EndGives, FinishGives, FreezeBegan, FreezeGives}
 use Rattle.m4_engine.specs.SessionFailures.{ReadFails}
 use Rattle.m4_engine.specs.Writers.{Contents, Three, Broken, writers, HasWritten}
+use Rattle.m4_engine.specs.SessionSteps.{BrokeOff, WrapsGive, round_of, answer_by, over_after, CloseGives}
 
 -- the session as the machine and the rest of it give it
-abbrev session_of : Engine → Bool → Option Cause → Bool → SessionState
+abbrev pub session_of : Engine → Bool → Option Cause → Bool → SessionState
 session_of e any_missing over finished = record {
   limits = e.limits;
   state = e.state;

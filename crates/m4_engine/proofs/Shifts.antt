@@ -23,15 +23,16 @@ use Rattle.m4_engine.specs.Expansion.{Ended, place_at, with_message, with_call, 
 use Rattle.m4_engine.specs.declared.role.Role.{Role}
 use Rattle.m4_engine.specs.declared.role.Role.TheVariants.{Opening, Closing, Separator, Blank, Other}
 use Rattle.m4_engine.specs.Args.{with_argument, dropped_if_any, end_argument, role_of, take_closing, take_byte}
-use Rattle.m4_engine.specs.Expand.{skip_all, skip_line, skip_or_push, effected, acted_at, kept_of, after_call, called}
-use Rattle.m4_engine.specs.Expand.{join_by, join, call_of, bare, collect, call_unless_deep, is_deep, call_if_room}
-use Rattle.m4_engine.specs.Expand.{call, call_without_list, take_call, take_name, take_other, take_end, take_token}
+use Rattle.m4_engine.specs.Expand.{skip_all, skip_line, effected, acted_at, kept_of, after_call, called}
+use Rattle.m4_engine.specs.Expand.{join, call_of, bare, collect, is_deep}
+use Rattle.m4_engine.specs.Expand.{call, take_call, take_name, take_other, take_end, take_token}
 use Rattle.m4_engine.specs.Expand.{take_front, unended_cause, turn, size_of, calls_left, out_of_bound_at, expand}
 use Rattle.std.specs.Prelude.{codes}
 use Rattle.std.specs.Fmt.{decimal}
 use Rattle.m4_builtins.specs.Messages.{error}
 use Rattle.m4_engine.proofs.Beside.{Follows, Fits, expansion_fits}
 use Rattle.m4_engine.proofs.CallsFall.{falls, expand_is}
+use Rattle.m4_engine.proofs.Cases.{skip_or_push, join_by, call_unless_deep, call_if_room, call_without_list}
 
 -- the record consumed one with this output, these messages and this count
 abbrev pub after_record : List ℕ → List ℕ → ℕ → RunSoFar → RunSoFar

@@ -2,7 +2,7 @@
 use Rattle.std.proofs.Common.{◌≡◌, ℕ, suc, ◌+◌, ◌-◌, Bool, true, false, List, [], ◌∷◌, ◌++◌, length, Option, Some}
 use Rattle.std.proofs.Common.{None, refl, sym, ap, ◌∙◌, subst, arith, length-append}
 use Rattle.std.specs.Prelude.{◌==◌}
-use Rattle.m4_input.specs.Pending.{Pending, text_of, consumed, line_length, one_more}
+use Rattle.m4_input.specs.Pending.{Pending, text_of, consumed, line_length, one_longer}
 use Rattle.m4_input.specs.Input.{longer, all_read, all_read_if_ended, after_line_of, after_line}
 use Rattle.m4_input.proofs.Consumed.{text-consumed, text_longer, consumed_longer, consumed_twice}
 use Rattle.m4_engine.specs.Nesting.{Closed}
@@ -17,11 +17,11 @@ abbrev further : ℕ → Option ℕ → Option ℕ
 further n None = None
 further n (Some k) = Some (n + k)
 
-one_further : (n : ℕ) (o : Option ℕ) → one_more (further n o) ≡ further (suc n) o
+one_further : (n : ℕ) (o : Option ℕ) → one_longer (further n o) ≡ further (suc n) o
 one_further n None = refl
 one_further n (Some k) = let e : suc (n + k) ≡ suc n + k = omega arith in ap Some e
 
-not_one_more : (o : Option ℕ) → one_more o ≡ None → o ≡ None
+not_one_more : (o : Option ℕ) → one_longer o ≡ None → o ≡ None
 not_one_more None e = refl
 not_one_more (Some n) e = cc
 
@@ -35,12 +35,12 @@ no_further (Some k) = let e : k ≡ 0 + k = omega arith in ap Some e
 line_beyond : (x z : List ℕ) → line_length x ≡ None → line_length (x ++ z) ≡ further (length x) (line_length z)
 line_beyond [] z e = no_further (line_length z)
 line_beyond (c ∷ x) z e =
-    let P : Bool → Type 0 = λ v. ◌≡◌ {A = Option ℕ} (elim v [ true ↦ Some 1 | false ↦ one_more (line_length x) ]) None
-    → ◌≡◌ {A = Option ℕ} (elim v [ true ↦ Some 1 | false ↦ one_more (line_length (x ++ z)) ])
+    let P : Bool → Type 0 = λ v. ◌≡◌ {A = Option ℕ} (elim v [ true ↦ Some 1 | false ↦ one_longer (line_length x) ]) None
+    → ◌≡◌ {A = Option ℕ} (elim v [ true ↦ Some 1 | false ↦ one_longer (line_length (x ++ z)) ])
     (further (suc (length x)) (line_length z)) in
     (elim (c == 10) as P [
       | true ↦ λ f. absurd (some_none 1 f)
-      | false ↦ λ f. ap one_more (line_beyond x z (not_one_more (line_length x) f)) ∙ one_further (length x) (line_length z)
+      | false ↦ λ f. ap one_longer (line_beyond x z (not_one_more (line_length x) f)) ∙ one_further (length x) (line_length z)
     ]) e
 
 nothing_left : (x : List ℕ) → length x ≡ 0 → x ≡ []

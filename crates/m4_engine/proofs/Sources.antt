@@ -15,17 +15,18 @@ use Rattle.m4_engine.specs.Moments.{so_far_in}
 use Rattle.m4_engine.proofs.Growth.{Extends, longer_level, Begins}
 use Rattle.m4_engine.proofs.OnlyGrows.{extends_same}
 use Rattle.m4_engine.proofs.Continues.{law}
-use Rattle.m4_engine.specs.File.{Source, Opened, Unopened, Progress, file, file_pending, after_source, cannot_open}
+use Rattle.m4_engine.specs.File.{Source, Opened, Unopened, Progress, read_file, file_pending, after_source, cannot_open}
 use Rattle.m4_engine.specs.declared.source.Source.{Source as RunSource}
 use Rattle.m4_engine.specs.declared.source.Source.TheVariants as sources
-use Rattle.m4_engine.specs.RunSources.{whole, opened_source, ExtendsRead, ExtendsOpened, script_of, DescribesSource}
+use Rattle.m4_engine.specs.RunSources.{opened_source, ExtendsRead, ExtendsOpened, script_of}
 use Rattle.m4_engine.specs.RunSources.{ConsumesOnly}
 use Rattle.m4_engine.specs.Session.{SessionState, progress_of, IsOpen, Completed, Interrupted, how_over, FileDone}
 use Rattle.m4_engine.specs.Session.{FileRead, FileEnded, FileBroke, FileFell, settled_part, FileGives, MissingGives}
-use Rattle.m4_engine.specs.Session.{BrokeOff, GoesTo}
 use Rattle.m4_engine.specs.Writers.{Contents, Broken}
 use Rattle.std.proofs.lemmas.List.{append_cancel_right}
 use Rattle.m4_engine.proofs.Begins.{nothing_begun}
+use Rattle.m4_engine.proofs.Cases.{whole, DescribesSource}
+use Rattle.m4_engine.specs.SessionSteps.{BrokeOff, GoesTo}
 
 -- the source is what was read, and what may follow it
 abbrev pub Suits : List ℕ → Option Script → Option Script → Source → Type 0
@@ -71,7 +72,7 @@ so_of name before after s Q P t h =
 -- an open session reads a file
 pub source_is : (old : SessionState) (name x : List ℕ) → IsOpen old
     → (after_source old.limits (Opened name x) (progress_of old)).so_far
-    ≡ (file old.limits (progress_of old).so_far name x).so_far
+    ≡ (read_file old.limits (progress_of old).so_far name x).so_far
 source_is old name x l = ap (λ (o : Option Cause). (after_source old.limits (Opened name x) (record (progress_of old) { over = how_over o })).so_far) l.over
 
 silent_begun : (o n : Option (List ℕ)) (x : List ℕ) → n ≡ o → HasBegun o n x
@@ -93,7 +94,7 @@ ended_goes old new name before after w s cause t h =
     (so_of name before after s _ (λ s. Completed old new (after_source old.limits s (progress_of old)) w) t h.0, h.1)
 
 broke_so : (old new : SessionState) (name bytes : List ℕ) (w : Contents) (cause : Cause) → Interrupted old new cause
-    → Broken (file old.limits (progress_of old).so_far name bytes) w
+    → Broken (read_file old.limits (progress_of old).so_far name bytes) w
     → BrokeOff new (after_source old.limits (Opened name bytes) (progress_of old)) w cause
 broke_so old new name bytes w cause f h = record {
   over = f.over;
@@ -129,7 +130,7 @@ settled_by z (Halted d) v (inr h) e = subst (λ (u : Outcome Expansion Ended). E
 settled_by z (Closed s) v h e = cc
 
 settled_file : (old : SessionState) (name x z : List ℕ) → (settled_part old name x).reason ≡ NeedsInput
-    → Extends (settled_part old name x).so_far (file old.limits (progress_of old).so_far name (x ++ z)).so_far
+    → Extends (settled_part old name x).so_far (read_file old.limits (progress_of old).so_far name (x ++ z)).so_far
 settled_file old name x z e =
     let s : Expansion = expansion_of old.limits (progress_of old).so_far (file_pending name x true) in
     settled_by z (expand s) (expand (longer_level z false s)) (law z false s refl) e

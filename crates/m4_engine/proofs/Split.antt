@@ -9,7 +9,7 @@ use Rattle.m4_engine.specs.Expansion.{RunSoFar, Limits, EndReason, Ends}
 use Rattle.m4_engine.specs.File.{Source, Progress, over_of, after_sources}
 use Rattle.m4_engine.specs.Wraps.{next_round, rounds, after_wraps, close}
 use Rattle.m4_engine.specs.Start.{Start, From, Faulty, begun}
-use Rattle.m4_engine.specs.Run.{RunResult, limits_of, closed_output, result_by, result_of, saved_unless_over}
+use Rattle.m4_engine.specs.Run.{RunResult, limits_of, closed_output, result_of}
 use Rattle.m4_engine.specs.Run.{saved_after, run_from}
 use Rattle.m4_engine.specs.Carries.{Carries, frozen_state}
 use Rattle.m4_engine.specs.Joined.{freezing, Joins}
@@ -17,6 +17,7 @@ use Rattle.m4_engine.proofs.OnePass.{over_wraps, sources_append}
 use Rattle.m4_engine.proofs.Limits.{over_how}
 use Rattle.m4_engine.proofs.Shifts.{after_record}
 use Rattle.m4_engine.proofs.RunsAfter.{Bp, Prefixed, sources_follow, rounds_after}
+use Rattle.m4_engine.proofs.Cases.{result_by, saved_unless_over}
 
 -- a run that froze is not over, and froze its state
 pub frozen_by : (v : Option EndReason) (saved : List (List ℕ)) (r : RunSoFar) (any_missing : Bool) (text : List ℕ)

@@ -23,16 +23,16 @@ use Rattle.m4_engine.specs.Expansion.{Limits, EndReason, Ends, RunSoFar}
 use Rattle.m4_engine.specs.File.{Source, Progress, after_sources}
 use Rattle.m4_engine.specs.Start.{Start, From, Faulty, start_of, begun}
 use Rattle.m4_engine.specs.Wraps.{after_wraps}
-use Rattle.m4_engine.specs.Run.{RunResult, limits_of, result_by, result_of, saved_after, saved_unless_over, status_of}
+use Rattle.m4_engine.specs.Run.{RunResult, limits_of, result_of, saved_after, status_of}
 use Rattle.m4_engine.specs.Run.{run_from}
 use Rattle.m4_engine.specs.Session.{SessionState, progress_of, session_from, fresh_session, AreReloaded, ReloadGives}
-use Rattle.m4_engine.specs.Session.{IsOpen, IsLeft, EndGives, CloseGives}
+use Rattle.m4_engine.specs.Session.{IsOpen, EndGives}
 use Rattle.m4_engine.specs.RunSteps.{BeginGives, IsBegun, BeginFails}
-use Rattle.m4_engine.specs.SessionFailures.{ReloadFails, ByAnswer, MessageWriteFails, SparesBy}
+use Rattle.m4_engine.specs.SessionFailures.{ReloadFails, ByAnswer, MessageWriteFails}
 use Rattle.m4_engine.specs.RunSources.{AllPairs, is_sound, ReadersFailBy, DescribesFrozen, frozen_fails}
 use Rattle.m4_engine.specs.RunSources.{FrozenFailsBy, IsUnrefused}
 use Rattle.m4_engine.specs.WholeRun.{WroteAll, WrotePrefix, GivesBy, RefusedBy, HasFrozen, FrozenBegan, FrozenBy}
-use Rattle.m4_engine.specs.WholeRun.{FrozenLast, RunGives, NothingIsDone, result_after, ending_by}
+use Rattle.m4_engine.specs.WholeRun.{FrozenLast, RunGives, NothingIsDone}
 use Rattle.m4_engine.specs.Writers.{Contents, Three, writers, ByCause, NoneOfThree, OneOfThree, IsSpared, Spares}
 use Rattle.m4_engine.proofs.Begins.{nothing_begun, begun_after}
 use Rattle.m4_engine.proofs.OnePass.{over_sources, over_wraps}
@@ -40,6 +40,8 @@ use Rattle.m4_engine.proofs.GoingOn.{after, sources_after, wraps_after}
 use Rattle.m4_engine.proofs.SameStart.{is_start}
 use Rattle.m4_engine.proofs.Sessions.{close_ends}
 use Rattle.m4_engine.proofs.Whole.{begun_longer, closed_after, none_saved, StatusIs}
+use Rattle.m4_engine.proofs.Cases.{result_by, saved_unless_over}
+use Rattle.m4_engine.specs.SessionSteps.{IsLeft, CloseGives, SparesBy, result_after, ending_by}
 
 -- a result with output that was written before
 abbrev issuing : List ℕ → RunResult → RunResult

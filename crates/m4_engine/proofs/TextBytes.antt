@@ -4,12 +4,14 @@ use Rattle.std.specs.Prelude.{◌||◌, ◌==◌}
 use Rattle.m4_state.specs.declared.delimiters.Delimiters.{Delimiters}
 use Rattle.m4_input.specs.Ascii.{is_letter, is_space}
 use Rattle.m4_input.proofs.ByteTables.{all_below, at_each}
-use Rattle.m4_input.specs.Token.{starts_with, may_start, kind_by, scan_kind}
-use Rattle.m4_engine.specs.Args.{role_of, role_by}
+use Rattle.m4_input.specs.Token.{starts_with, may_start, scan_kind}
+use Rattle.m4_input.proofs.Cases.{kind_by}
+use Rattle.m4_engine.specs.Args.{role_of}
 use Rattle.m4_engine.specs.Expansion.{Call}
 use Rattle.m4_engine.specs.declared.role.Role.TheVariants.{Other}
 use Rattle.m4_engine.specs.Collected.{IsLone}
 use Rattle.m4_engine.specs.declared.collect.TheConstants.{TEXT_BYTES}
+use Rattle.m4_engine.proofs.Cases.{role_by}
 
 -- a byte at whose place a full stop is is no letter, no parenthesis and no comma
 abbrev is_text_class : List ℕ → ℕ → Bool

@@ -10,11 +10,11 @@ use Rattle.m4_engine.specs.declared.ending.Cause.{Cause}
 use Rattle.m4_engine.specs.declared.ending.Cause.TheVariants as causes
 use Rattle.m4_engine.specs.declared.ending.Ending.{Ending}
 use Rattle.m4_engine.specs.Expansion.{RunSoFar, Limits, EndReason, Ends, NeedsInput, OutOfBound}
-use Rattle.m4_engine.specs.File.{Source, Opened, Unopened, Progress, over_of, unless_over, read_source, after_source}
+use Rattle.m4_engine.specs.File.{Source, Opened, Unopened, Progress, over_of, read_source, after_source}
 use Rattle.m4_engine.specs.File.{after_sources}
 use Rattle.m4_engine.specs.Wraps.{read_saved, next_round, rounds, after_wraps}
 use Rattle.m4_engine.specs.Start.{Start, From, Faulty, frozen_file, start_of, begun}
-use Rattle.m4_engine.specs.Run.{RunResult, limits_of, result_by, saved_after, run, run_from}
+use Rattle.m4_engine.specs.Run.{RunResult, limits_of, saved_after, run, run_from}
 use Rattle.m4_engine.specs.Session.{is_saved}
 use Rattle.m4_engine.specs.WholeRun.{wrapped_by, WroteAll, GivesBy, HasFrozen, FrozenBy, RunGives}
 use Rattle.m4_engine.specs.Carries.{Carries, frozen_state}
@@ -22,6 +22,7 @@ use Rattle.m4_engine.specs.Joined.{freezing, prefixed, Joins}
 use Rattle.m4_engine.specs.Laws.{IsDecided, IsOneRun}
 use Rattle.m4_engine.specs.Writers.{Contents, Three, writers}
 use Rattle.m4_engine.proofs.Reloads.{split}
+use Rattle.m4_engine.proofs.Cases.{unless_over, result_by}
 
 -- a run that is over did not come to its end
 abbrev IsCut : Option EndReason → Type 0

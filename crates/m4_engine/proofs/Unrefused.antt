@@ -24,18 +24,19 @@ use Rattle.m4_engine.specs.Nesting.{Turn, Halt, Close, GoOn, Bare, Opens, Outcom
 use Rattle.m4_engine.specs.Expansion.{RunSoFar, Limits, Call, Mode, Outside, Collecting, Expansion, Kept, EndReason}
 use Rattle.m4_engine.specs.Expansion.{Ends, Ended, NeedsInput, OutOfBound, place_at, with_call, reading}
 use Rattle.m4_engine.specs.Args.{role_of, take_closing, take_byte}
-use Rattle.m4_engine.specs.Expand.{skip_all, skip_line, skip_or_push, effected, kept_of, after_call, called, join_by}
-use Rattle.m4_engine.specs.Expand.{join, call_of, bare, collect, call_unless_deep, is_deep, call_if_room}
-use Rattle.m4_engine.specs.Expand.{call_without_list, take_call, take_name, take_other, take_end, take_token}
+use Rattle.m4_engine.specs.Expand.{skip_all, skip_line, effected, kept_of, after_call, called}
+use Rattle.m4_engine.specs.Expand.{join, call_of, bare, collect, is_deep}
+use Rattle.m4_engine.specs.Expand.{take_call, take_name, take_other, take_end, take_token}
 use Rattle.m4_engine.specs.Expand.{take_front, unended_cause, turn, size_of, calls_left, out_of_bound_at, expand}
 use Rattle.m4_engine.specs.Expand.{expansion_of, ended_of, expand_input}
-use Rattle.m4_engine.specs.File.{Source, Opened, Unopened, Progress, file_pending, over_of, unless_over, read_source}
+use Rattle.m4_engine.specs.File.{Source, Opened, Unopened, Progress, file_pending, over_of, read_source}
 use Rattle.m4_engine.specs.File.{after_source, after_sources}
 use Rattle.m4_engine.specs.Wraps.{read_saved, next_round, rounds, after_wraps, wrapped_pending, joined_back}
 use Rattle.m4_engine.specs.Start.{Start, From, Faulty, begun}
-use Rattle.m4_engine.specs.Run.{limits_of, result_by, saved_after, run_from}
+use Rattle.m4_engine.specs.Run.{limits_of, saved_after, run_from}
 use Rattle.m4_engine.proofs.ByRules.{Rules, holds}
 use Rattle.m4_engine.proofs.CallsFall.{falls}
+use Rattle.m4_engine.proofs.Cases.{skip_or_push, join_by, call_unless_deep, call_if_room, call_without_list, unless_over, result_by}
 
 -- an end by a frozen file
 abbrev pub is_refusal : EndReason → Bool

@@ -14,19 +14,21 @@ use Rattle.m4_engine.specs.declared.stop.Stop.TheVariants as stops
 use Rattle.m4_engine.specs.Expansion.{RunSoFar, Limits, EndReason, Ends}
 use Rattle.m4_engine.specs.File.{Source, Progress, after_sources}
 use Rattle.m4_engine.specs.Wraps.{read_saved, next_round, rounds, after_wraps, close}
-use Rattle.m4_engine.specs.Run.{RunResult, closed_output, frozen_text, result_by, result_of, saved_after}
-use Rattle.m4_engine.specs.Run.{saved_unless_over, status_of}
-use Rattle.m4_engine.specs.Session.{SessionState, progress_of, how_over, how_by, IsOpen, Completed, BrokeOff, GoesTo}
+use Rattle.m4_engine.specs.Run.{RunResult, closed_output, result_of, saved_after}
+use Rattle.m4_engine.specs.Run.{status_of}
+use Rattle.m4_engine.specs.Session.{SessionState, progress_of, how_over, how_by, IsOpen, Completed}
 use Rattle.m4_engine.specs.Session.{session_after_wraps, Closed, Unfinished, EndGives, FreezeBegan, FreezeUses, FrozenGives}
-use Rattle.m4_engine.specs.Session.{CloseGives, is_saved, status_at, IsLeft}
+use Rattle.m4_engine.specs.Session.{is_saved, status_at}
 use Rattle.m4_engine.specs.WholeRun.{wrapped_by, WroteAll, WrotePrefix, GivesBy, HasFrozen, FrozenBegan, FrozenBy}
-use Rattle.m4_engine.specs.WholeRun.{FrozenLast, RunGives, result_after, ending_by}
+use Rattle.m4_engine.specs.WholeRun.{FrozenLast, RunGives}
 use Rattle.m4_engine.specs.Laws.{IsBeginning}
 use Rattle.m4_engine.specs.Writers.{Contents, Three, writers, IsSpared}
 use Rattle.m4_engine.proofs.OnlyGrows.{extends_same}
 use Rattle.m4_engine.proofs.OnePass.{over_wraps, finish_begins}
 use Rattle.m4_engine.proofs.Begins.{begun_after}
 use Rattle.m4_engine.proofs.GoingOn.{after, wraps_after, written_after, over_after_it}
+use Rattle.m4_engine.proofs.Cases.{frozen_text, result_by, saved_unless_over}
+use Rattle.m4_engine.specs.SessionSteps.{BrokeOff, GoesTo, CloseGives, IsLeft, result_after, ending_by}
 
 -- what a run's two writers have, by the cause that ended it
 abbrev GivesIn : RunResult → Ending → Contents → Type 0

@@ -14,9 +14,9 @@ use Rattle.m4_engine.specs.declared.stop.Stop.{Stop}
 use Rattle.m4_engine.specs.declared.stop.Stop.TheVariants as stops
 use Rattle.m4_engine.specs.Expansion.{RunSoFar, Limits, EndReason}
 use Rattle.m4_engine.specs.File.{Progress}
-use Rattle.m4_engine.specs.Run.{closed_output, result_by, result_of}
-use Rattle.m4_engine.specs.Session.{SessionState, progress_of, how_over, written, IsOpen, Completed, BrokeOff, GoesTo}
-use Rattle.m4_engine.specs.Session.{WrapsGive, round_of, session_after_wraps, last_state, is_saved, Closed}
+use Rattle.m4_engine.specs.Run.{closed_output, result_of}
+use Rattle.m4_engine.specs.Session.{SessionState, progress_of, how_over, written, IsOpen, Completed}
+use Rattle.m4_engine.specs.Session.{session_after_wraps, last_state, is_saved, Closed}
 use Rattle.m4_engine.specs.Session.{Unfinished, EndGives, FinishGives, FreezeBegan, FrozenGives, FreezeGives, FreezeUses}
 use Rattle.m4_engine.specs.Wraps.{next_round, read_saved, after_wraps, close}
 use Rattle.m4_engine.specs.Order.{IsTurnOfRound, InRounds, InSomeRound, Breaks, BreaksBy}
@@ -29,6 +29,8 @@ use Rattle.m4_engine.proofs.Sessions.{after_is}
 use Rattle.m4_engine.proofs.GoingOn.{after, after_twice, written_after, round_after, wraps_after, Within, step_stops}
 use Rattle.m4_engine.proofs.GoingOn.{all_made}
 use Rattle.m4_engine.proofs.Ordering.{same_breaks, some_saved}
+use Rattle.m4_engine.proofs.Cases.{result_by}
+use Rattle.m4_engine.specs.SessionSteps.{BrokeOff, GoesTo, WrapsGive, round_of}
 
 -- ---- the rounds
 
@@ -67,7 +69,7 @@ by_saved go limits (x ∷ xs) s e f h =
 
 next_is : (s : SessionState) → IsOpen s → is_saved s.saved ≡ true → session_after_wraps s ≡ after_wraps s.limits (round_of s)
 next_is s l e =
-    wraps_rules s.limits (progress_of s)
+    (wraps_rules s.limits).0 (progress_of s)
     ∙ ap (λ (o : Option Cause). next_round (after_wraps s.limits) s.limits (how_over o) s.saved (progress_of s)) l.over
     ∙ by_saved (after_wraps s.limits) s.limits s.saved s refl refl e
 

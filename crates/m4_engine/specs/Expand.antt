@@ -1,11 +1,11 @@
--- Expand: the result of expanding an input.
--- Believed. Its law: `ExpandRules` (no bound is reached: an expansion is the result of its turns).
+-- Expand: the result of expanding an input. Its point is `turn`.
+-- Believed. Its law: `ExpandRules` (no bound is reached: `expand` is the one function that gives what the turns say).
 -- Manual: "Macro invocation", "Macro arguments", "How m4 copies input to output".
 -- A turn consumes the first token. A name with a definition is a call: it is counted, its arguments
 -- are collected, it is acted on, and its result is read again. All other tokens are text.
 -- Words: called, call, turn, expand.
 use Rattle.std.specs.Prelude.{ℕ, suc, ◌+◌, ◌-◌, Bool, true, false, ◌&&◌, nat_lt, List, [], ◌∷◌, ◌++◌, Option, Some}
-use Rattle.std.specs.Prelude.{None, length, codes}
+use Rattle.std.specs.Prelude.{None, length, codes, if◌then◌else◌, unwrap_or}
 use Rattle.std.specs.Fmt.{decimal}
 use Rattle.m4_state.specs.declared.definition.Def.{Def}
 use Rattle.m4_state.specs.State.{top_of}
@@ -21,25 +21,22 @@ use Rattle.m4_input.specs.Token.{Front, Taken, Refused, More, token_at}
 use Rattle.m4_input.specs.Paren.{paren_at}
 use Rattle.m4_input.specs.Input.{with_pushed}
 use Rattle.m4_builtins.specs.declared.place.Place.{Place}
-use Rattle.m4_builtins.specs.Args.{or_empty}
 use Rattle.m4_builtins.specs.Act.{Acted, act, needs_list}
 use Rattle.m4_engine.specs.declared.ending.Cause.{Cause}
 use Rattle.m4_engine.specs.declared.ending.Cause.TheVariants as causes
 use Rattle.m4_engine.specs.Nesting.{Turn, Halt, GoOn, Bare, Opens, Outcome, Halted, Closed, expansion}
 use Rattle.m4_engine.specs.Expansion.{RunSoFar, Limits, Call, Mode, Outside, Collecting, Expansion, Kept, Ends}
 use Rattle.m4_engine.specs.Expansion.{NeedsInput, OutOfBound, Ended, place_at, with_call, reading, stop, fail, put_text}
-use Rattle.m4_engine.specs.Expansion.{put_token}
+use Rattle.m4_engine.specs.Expansion.{in_list, put_token}
 use Rattle.m4_engine.specs.Args.{take_byte, role_of}
 
 -- a value, if there is one, is inserted before the pending input
 abbrev pub with_value : Option Pushed → Pending → Pending
-with_value None p = p
-with_value (Some v) p = with_pushed v p
+with_value o p = elim o [ None ↦ p | Some v ↦ with_pushed v p ]
 
 -- a text is saved for the end
 abbrev pub with_saved : Option (List ℕ) → List (List ℕ) → List (List ℕ)
-with_saved None saved = saved
-with_saved (Some x) saved = saved ++ x ∷ []
+with_saved o saved = elim o [ None ↦ saved | Some x ↦ saved ++ x ∷ [] ]
 
 -- the effects of a call are added
 abbrev pub with_acted : Acted → RunSoFar → RunSoFar
@@ -60,20 +57,12 @@ abbrev pub skip_line : Option ℕ → Expansion → Outcome Expansion Ended
 skip_line None s = skip_all (s.pending).may_follow s
 skip_line (Some n) s = Closed (reading (consumed n s.pending) s)
 
--- after a call: the rest of the line is skipped, or a value is read before everything else
-abbrev pub skip_or_push : Bool → Option Pushed → Expansion → Outcome Expansion Ended
-skip_or_push true v s = skip_line (line_length (text_of s.pending)) s
-skip_or_push false v s = Closed (reading (with_value v s.pending) s)
-
--- after a call that may end the run
+-- after a call: it ends the run, or skips the rest of the line, or its value is read before everything else
 abbrev pub effected : Option ℕ → Bool → Option Pushed → Expansion → Outcome Expansion Ended
 effected (Some code) skip v s = Halted (record { so_far = s.so_far; reason = Ends (causes.Exited code) })
-effected None skip v s = skip_or_push skip v s
-
--- a call is a token: it begins the argument around it
-abbrev pub mode_after_call : Mode → Mode
-mode_after_call Outside = Outside
-mode_after_call (Collecting c) = Collecting (record c { begun = true })
+effected None skip v s =
+    if skip then skip_line (line_length (text_of s.pending)) s
+    else Closed (reading (with_value v s.pending) s)
 
 -- the effect of a call that is acted on at t
 abbrev pub acted_at : Call → Expansion → Acted
@@ -83,14 +72,14 @@ acted_at c t = act c.definition c.name c.done c.place (t.so_far).state
 abbrev pub kept_of : Expansion → Kept
 kept_of s = record { open_calls = s.open_calls; mode = s.mode }
 
--- after a call that was acted on at t, if `kept` is to continue
+-- after a call that was acted on at t, if `kept` is to continue: a call is a token, so it begins the argument around it
 abbrev pub after_call : Call → Expansion → Kept → Expansion
 after_call c t kept = record {
   limits = t.limits;
   so_far = with_acted (acted_at c t) t.so_far;
   pending = t.pending;
   open_calls = kept.open_calls;
-  mode = mode_after_call kept.mode;
+  mode = in_list (λ (c : Call). record c { begun = true }) kept.mode;
 }
 
 -- a call is acted on at t, with the definition that its name had before its arguments
@@ -100,30 +89,17 @@ called c t kept =
     ((acted_at c t).effect).push (after_call c t kept)
 
 -- the list that ends at t is complete
-abbrev pub join_by : Mode → Kept → Expansion → Outcome Expansion Ended
-join_by Outside kept t = Closed t
-join_by (Collecting c) kept t = called c t kept
-
 abbrev pub join : Kept → Expansion → Outcome Expansion Ended
-join kept t = join_by t.mode kept t
+join kept t = elim t.mode [ Outside ↦ Closed t | Collecting c ↦ called c t kept ]
 
 -- a call before its arguments
 abbrev pub call_of : Def → List ℕ → Place → Call
-call_of d name p = record {
-  definition = d;
-  name = name;
-  place = p;
-  done = [];
-  parentheses = 0;
-  begun = false;
-  bytes = [];
-  tokens = [];
-}
+call_of d x p =
+    record { definition = d; name = x; place = p; done = []; parentheses = 0; begun = false; bytes = []; tokens = [] }
 
 -- a call without a list, as a turn
 abbrev pub bare : Outcome Expansion Ended → Turn Expansion Kept Ended
-bare (Halted d) = Halt d
-bare (Closed s) = Bare s
+bare o = elim o [ Halted d ↦ Halt d | Closed s ↦ Bare s ]
 
 -- a call within the limits; `listed` says that an argument list follows
 abbrev pub collect : Bool → Call → Pending → Expansion → Turn Expansion Kept Ended
@@ -134,37 +110,29 @@ collect true c p s = Opens (kept_of s) (record s {
 })
 collect false c p s = bare (called c (reading p s) (kept_of s))
 
--- a call that was counted; `deep` says that too many calls are open
-abbrev pub call_unless_deep : Bool → Bool → Call → Pending → Expansion → Turn Expansion Kept Ended
-call_unless_deep true listed c p s =
-    fail s c.place (codes "more than " ++ decimal (s.limits).nesting ++ codes " nested calls")
-    causes.NestingLimit
-call_unless_deep false listed c p s = collect listed c p s
-
 -- whether one more open call exceeds the limit
 abbrev pub is_deep : Expansion → Bool
 is_deep s = nat_lt 0 (s.limits).nesting && nat_lt (s.limits).nesting (suc s.open_calls)
 
--- a call; `room` says that the limit allows one
-abbrev pub call_if_room : Bool → Bool → Call → Pending → Expansion → Turn Expansion Kept Ended
-call_if_room true listed c p s = call_unless_deep (is_deep s) listed c p (with_call s)
-call_if_room false listed c p s =
-    fail s c.place (codes "more than " ++ decimal (s.limits).calls ++ codes " calls")
-    causes.ExpansionLimit
+-- a call above a limit of n
+abbrev pub over_limit : ℕ → List ℕ → Cause → Call → Expansion → Turn Expansion Kept Ended
+over_limit n what cause c s = fail s c.place (codes "more than " ++ decimal n ++ what) cause
 
+-- a call is counted, unless there were as many as may be, and made, unless too many are open
 abbrev pub call : Bool → Call → Pending → Expansion → Turn Expansion Kept Ended
-call listed c p s = call_if_room (nat_lt (s.so_far).calls (s.limits).calls) listed c p s
+call listed c p s =
+    if nat_lt (s.so_far).calls (s.limits).calls then (
+    if is_deep s then over_limit (s.limits).nesting (codes " nested calls") causes.NestingLimit c (with_call s)
+    else collect listed c p (with_call s))
+    else over_limit (s.limits).calls (codes " calls") causes.ExpansionLimit c s
 
--- a name with a definition and no list: text, if the definition is recognised only with one
-abbrev pub call_without_list : Bool → Call → Pending → Expansion → Turn Expansion Kept Ended
-call_without_list true c p s = GoOn (put_text c.name (reading p s))
-call_without_list false c p s = call false c p s
-
--- a name with a definition, by whether an argument list follows
+-- a name with a definition, by whether an argument list follows; without one the name is text if the definition
+-- is recognised only with one
 abbrev pub take_call : Answer → Call → Pending → Expansion → Turn Expansion Kept Ended
 take_call Unknown c p s = stop s NeedsInput
 take_call Yes c p s = call true c p s
-take_call No c p s = call_without_list (needs_list c.definition) c p s
+take_call No c p s =
+    if needs_list c.definition then GoOn (put_text c.name (reading p s)) else call false c p s
 
 -- a name, by its top definition
 abbrev pub take_name : Option Def → List ℕ → Pending → Expansion → Turn Expansion Kept Ended
@@ -205,7 +173,7 @@ unended_cause InComment = causes.EndInComment
 abbrev pub take_front : Front → Expansion → Turn Expansion Kept Ended
 take_front (Taken t p) s = take_token t p s
 take_front (Refused what line) s =
-    fail s (record { file = or_empty (s.pending).file; line = line }) (unended_text what)
+    fail s (record { file = unwrap_or (s.pending).file []; line = line }) (unended_text what)
     (unended_cause what)
 take_front More s = stop s NeedsInput
 
@@ -238,18 +206,11 @@ expand = expansion Expansion Kept Ended turn join out_of_bound_at size_of calls_
 
 -- an expansion outside of calls: it never closes a list
 abbrev pub ended_of : Outcome Expansion Ended → Ended
-ended_of (Halted d) = d
-ended_of (Closed s) = out_of_bound_at s
+ended_of o = elim o [ Halted d ↦ d | Closed s ↦ record { so_far = s.so_far; reason = OutOfBound } ]
 
 -- the expansion of the pending input, outside of calls
 abbrev pub expansion_of : Limits → RunSoFar → Pending → Expansion
-expansion_of limits r p = record {
-  limits = limits;
-  so_far = r;
-  pending = p;
-  open_calls = 0;
-  mode = Outside;
-}
+expansion_of limits r p = record { limits = limits; so_far = r; pending = p; open_calls = 0; mode = Outside }
 
 abbrev pub expand_input : Limits → RunSoFar → Pending → Ended
 expand_input limits r p = ended_of (expand (expansion_of limits r p))

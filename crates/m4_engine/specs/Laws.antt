@@ -1,10 +1,10 @@
 -- Laws: what holds of the definitions alone, for expansions and runs.
 -- Believed as statements; the functions of the module `laws` carry their proofs.
--- Words: ExpansionRules, ExpandRules, MomentsLead, WrapsRules, OneStart, SameDenotation, SettledBegins, SplitStates,
--- Split, Chain, IsDecided, IsOneRun, TwoRuns, LargerNesting, LargerCalls, RunEnds.
+-- Words: ExpansionRules, ExpandRules, MomentsLead, WrapsRules, OneState, OneStart, SameDenotation, SettledBegins,
+-- SplitStates, Split, Chain, IsDecided, IsOneRun, TwoRuns, LargerNesting, LargerCalls, RunEnds.
 use Rattle.std.specs.Prelude.{◌≡◌, ◌≢◌, ◌↔◌, ◌⊎◌, ℕ, ◌<◌, ◌≤◌, Bool, true, false, List, [], ◌∷◌, ◌++◌, Option, Some}
 use Rattle.m4_state.specs.Device.{Script, with_bytes}
-use Rattle.m4_state.specs.State.{IsSized}
+use Rattle.m4_state.specs.State.{State, IsSized}
 use Rattle.m4_frozen.specs.Directive.{Directive}
 use Rattle.m4_frozen.specs.Spells.{Spells}
 use Rattle.m4_frozen.specs.Denote.{denote}
@@ -18,7 +18,7 @@ use Rattle.m4_engine.specs.OpenCalls.{Goes, moved_meaning}
 use Rattle.m4_engine.specs.Moments.{Moment, Next, Comes, first_moment}
 use Rattle.m4_engine.specs.File.{Source, Opened, Progress}
 use Rattle.m4_engine.specs.Wraps.{next_round, after_wraps}
-use Rattle.m4_engine.specs.Start.{Start, From, frozen_file, IsStart, start_of}
+use Rattle.m4_engine.specs.Start.{Start, From, StartsFrom, frozen_file, IsStart, start_of}
 use Rattle.m4_engine.specs.Run.{RunResult, run, run_from}
 use Rattle.m4_engine.specs.Settled.{SettledSoFar, settled}
 use Rattle.m4_engine.specs.Carries.{Carries, frozen_state}
@@ -40,9 +40,15 @@ ExpansionRules S F D =
 abbrev pub IsBeginning : List ℕ → List ℕ → Type 0
 IsBeginning x y = (rest : List ℕ) × (y ≡ x ++ rest)
 
--- each expansion is the result of its turns
+-- f gives for each expansion the result of its turns
+abbrev pub FollowsTurns : (Expansion → Outcome Expansion Ended) → Type 0
+FollowsTurns f = (s : Expansion) → f s ≡ after Expansion Kept Ended join f f (turn s)
+
+-- `expand` does so, with no bound in sight, and nothing else does
 abbrev pub ExpandRules : Type 0
-ExpandRules = (s : Expansion) → expand s ≡ after Expansion Kept Ended join expand expand (turn s)
+ExpandRules =
+    FollowsTurns expand
+    × ((f : Expansion → Outcome Expansion Ended) → FollowsTurns f → (s : Expansion) → f s ≡ expand s)
 
 -- whatever its turns lead to comes to what the whole expansion comes to
 abbrev pub MomentsLead : Type 0
@@ -50,11 +56,22 @@ MomentsLead =
     (s : Expansion) (way : List Moment) (n : Next) → Comes way (Goes (first_moment s)) n
     → moved_meaning Expansion Kept Ended turn join expand n ≡ expand s
 
--- a run after its saved texts is the result of its next round and of the later ones, with no bound in sight
+-- f gives for each run its next round, and after it what f gives
+abbrev pub FollowsRounds : Limits → (Progress → Progress) → Type 0
+FollowsRounds limits f = (p : Progress) → f p ≡ next_round f limits p.over (p.so_far).saved p
+
+-- `after_wraps` does so, with no bound in sight, and nothing else does
 abbrev pub WrapsRules : Type 0
 WrapsRules =
-    (limits : Limits) (p : Progress)
-    → after_wraps limits p ≡ next_round (after_wraps limits) limits p.over (p.so_far).saved p
+    (limits : Limits) → FollowsRounds limits (after_wraps limits)
+    × ((f : Progress → Progress) → FollowsRounds limits f → (p : Progress) → f p ≡ after_wraps limits p)
+
+-- a run starts from a state exactly if it is the fresh one, or was loaded from the frozen file; any other frozen
+-- file is refused with a fault
+abbrev pub OneState : Type 0
+OneState =
+    (prefix : Bool) (frozen : Option Script) (s : State) (issued : List ℕ)
+    → StartsFrom prefix frozen (From s issued) ↔ (start_of prefix frozen ≡ From s issued)
 
 -- each run has exactly one start, and it is the one that the definition of a run uses
 abbrev pub OneStart : Type 0

@@ -30,6 +30,7 @@ pub mod Order
 pub mod SessionFailures
 pub mod SessionView
 pub mod WholeRun
+pub mod SessionSteps
 pub mod OnePass
 pub mod SourcesRead
 pub mod RunSteps

@@ -1,8 +1,9 @@
 -- RunSources: the definitions' sources for those of a run, by the bytes that their readers deliver.
--- Believed. Manual: "Command line files". Words: whole, source_of, ExtendsRead, ExtendsSource, DescribeSources,
+-- Believed. Manual: "Command line files". Words: source_of, ExtendsRead, ExtendsSource, DescribeSources,
 -- any_unopened, MissedBefore, MissedBy, MissedIn, AllPairs, AnyFailed, is_sound, ReadersFailBy, AllConsumeOnly,
 -- DescribesFrozen, FrozenFailsBy.
 use Rattle.std.specs.Prelude.{◌≡◌, ℕ, Bool, true, false, List, [], ◌∷◌, ◌++◌, map, Option, Some, None, ◌⊎◌, ◌||◌}
+use Rattle.std.specs.Prelude.{if◌then◌else◌}
 use Rattle.m4_state.specs.Device.{Script, after_bytes, one_more, IsAtFault}
 use Rattle.m4_frozen.specs.declared.fault.FrozenKind.TheVariants as kinds
 use Rattle.m4_frozen.specs.declared.fault.FrozenFault.{FrozenFault}
@@ -13,13 +14,9 @@ use Rattle.m4_engine.specs.declared.source.Source.TheVariants as sources
 use Rattle.m4_engine.specs.File.{Source, Opened, Unopened}
 
 -- a reader that ends after its bytes; one that fails gives no source
-abbrev pub whole : List ℕ → List ℕ → Bool → Option Source
-whole name bytes true = None
-whole name bytes false = Some (Opened name bytes)
-
 abbrev pub opened_source : List ℕ → Option Script → Option Source
 opened_source name None = None
-opened_source name (Some script) = whole name script.bytes script.fails
+opened_source name (Some script) = if script.fails then None else Some (Opened name script.bytes)
 
 abbrev pub unopened_source : List ℕ → Option Source
 unopened_source name = Some (Unopened name)
@@ -64,10 +61,6 @@ abbrev pub DescribeSources : {R : Type 0} → (R → Option Script) → List (Ru
     → Type 0
 DescribeSources script before after ss =
     (map (source_of script) before ≡ map Some ss) ⊎ ExtendSources script before after ss
-
--- the same for one of them
-abbrev pub DescribesSource : {R : Type 0} → (R → Option Script) → RunSource R → RunSource R → Source → Type 0
-DescribesSource script before after s = (source_of script before ≡ Some s) ⊎ ExtendsSource script before after s
 
 -- whether a source wasn't opened
 abbrev pub is_unopened : {R : Type 0} → RunSource R → Bool

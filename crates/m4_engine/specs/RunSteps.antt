@@ -16,11 +16,12 @@ use Rattle.m4_engine.specs.File.{Source, Progress, after_sources}
 use Rattle.m4_engine.specs.Wraps.{after_wraps}
 use Rattle.m4_engine.specs.Order.{IsStepOfRun, Breaks, BreaksBy}
 use Rattle.m4_engine.specs.RunSources.{IsUnrefused, MissedBy, any_unopened, is_unopened}
-use Rattle.m4_engine.specs.Session.{SessionState, GoesTo, progress_of, session_from, status_at}
-use Rattle.m4_engine.specs.SessionFailures.{ReloadFails, ThreeFail, SparesBy}
+use Rattle.m4_engine.specs.Session.{SessionState, progress_of, session_from, status_at}
+use Rattle.m4_engine.specs.SessionFailures.{ReloadFails, ThreeFail}
 use Rattle.m4_engine.specs.Start.{Start, From, Faulty}
-use Rattle.m4_engine.specs.WholeRun.{FrozenLast, RunGives, result_after, ending_by}
+use Rattle.m4_engine.specs.WholeRun.{FrozenLast, RunGives}
 use Rattle.m4_engine.specs.Writers.{Contents, Three}
+use Rattle.m4_engine.specs.SessionSteps.{GoesTo, SparesBy, result_after, ending_by}
 
 -- a run begins from a start, whose issued text was written, or ends with the start's fault
 abbrev pub BeginGives : Start → Options → Option (List ℕ) → Option (List ℕ) → Result SessionState Stop → Type 0

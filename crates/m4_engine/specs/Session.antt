@@ -20,8 +20,8 @@ use Rattle.m4_engine.specs.Expansion.{Limits, EndReason, Ends, NeedsInput, Ended
 use Rattle.m4_engine.specs.Expand.{expand_input}
 use Rattle.m4_engine.specs.Start.{From, Faulty, IsStart}
 use Rattle.m4_engine.specs.Writers.{Contents, Three, Broken, WroteAtLeast, IsSpared}
-use Rattle.m4_engine.specs.File.{Opened, Unopened, Progress, file, file_pending, after_source, cannot_open}
-use Rattle.m4_engine.specs.Wraps.{read_saved, after_wraps}
+use Rattle.m4_engine.specs.File.{Opened, Unopened, Progress, read_file, file_pending, after_source, cannot_open}
+use Rattle.m4_engine.specs.Wraps.{after_wraps}
 use Rattle.m4_engine.specs.Run.{limits_of, status_of, closed_output, result_of}
 
 -- a run between two calls: its results without the bytes that were written; whether a source wasn't opened;
@@ -141,7 +141,7 @@ FileEnded name before after old new w cause =
 abbrev pub FileBroke : List ℕ → Option Script → Option Script → SessionState → SessionState → Contents → Cause → Type 0
 FileBroke name before after old new w cause =
     FileRead before after (λ x. FileAsked old name x w)
-    (λ bytes. Broken (file old.limits (progress_of old).so_far name bytes) w) × Interrupted old new cause
+    (λ bytes. Broken (read_file old.limits (progress_of old).so_far name bytes) w) × Interrupted old new cause
 
 -- the reader delivered x and failed: what x settles was written, and nothing else
 pub record FileFell (name : List ℕ) (before after : Option Script) (old new : SessionState)
@@ -193,15 +193,6 @@ how_by (Some cause) = Ends cause
 
 abbrev pub status_at : SessionState → ℕ
 status_at s = status_of (how_by s.over) s.any_missing
-
--- the result after an input, by its cause
-abbrev pub answer_by : Cause → Result Unit Stop
-answer_by causes.Done = Ok tt
-answer_by cause = Err (stops.Ended cause)
-
-abbrev pub over_after : Cause → Option Cause → Option Cause
-over_after causes.Done over = over
-over_after cause over = Some cause
 
 -- a source that wasn't opened: it is reported
 abbrev pub MissingGives : List ℕ → SessionState → SessionState → Option (List ℕ) → Option (List ℕ) → Result Unit Stop
@@ -284,50 +275,7 @@ abbrev pub FreezeUses : {Z : Type 0} → SessionState → Z → Z → Three (Opt
 FreezeUses old z z' w (Err (stops.Ended causes.Write)) = (z' ≡ z) ⊎ FreezeBegan old w
 FreezeUses old z z' w answer = Unit {0}
 
--- the end of a run, and the contents of the frozen text's writer
-abbrev pub CloseGives : Bool → SessionState → SessionState → Three (Option (List ℕ)) → Result Unit Stop → Type 0
-CloseGives true old new w answer = FreezeGives old new w answer
-CloseGives false old new w answer = FinishGives old new w.two answer × IsSpared w
-
 -- whether a text is saved
 abbrev pub is_saved : List (List ℕ) → Bool
 is_saved [] = false
 is_saved (x ∷ xs) = true
-
--- prefixes of a run's output and messages were written, and the cause ends it
-pub record BrokeOff (new : SessionState) (p : Progress) (w : Contents) (cause : Cause) : Type 0 where
-  pub over : new.over ≡ Some cause
-  pub output : HasBegun w.out_old w.out_new (p.so_far).output
-  pub messages : HasBegun w.messages_old w.messages_new (p.so_far).messages
-
--- an open session that reached this progress, or was interrupted on the way
-abbrev pub GoesTo : Progress → SessionState → SessionState → Contents → Result Unit Stop → Type 0
-GoesTo p old new w (Ok done) = Completed old new p w × (new.over ≡ None)
-GoesTo p old new w (Err stops.Finished) = ⊥
-GoesTo p old new w (Err (stops.Ended causes.Done)) = ⊥
-GoesTo p old new w (Err (stops.Ended (causes.Frozen fault))) = ⊥
-GoesTo p old new w (Err (stops.Ended causes.Read)) = BrokeOff new p w causes.Read
-GoesTo p old new w (Err (stops.Ended causes.Write)) = BrokeOff new p w causes.Write
-GoesTo p old new w (Err (stops.Ended causes.OutOfMemory)) = BrokeOff new p w causes.OutOfMemory
-GoesTo p old new w (Err (stops.Ended cause)) = Completed old new p w × (new.over ≡ Some cause)
-
--- no reader's fault ends the run
-abbrev pub AsksNoReader : Result Unit Stop → Type 0
-AsksNoReader (Err (stops.Ended causes.Read)) = ⊥
-AsksNoReader result = Unit {0}
-
--- the same for saved texts, which need no reader
-abbrev pub WrapsGive : Progress → SessionState → SessionState → Contents → Result Unit Stop → Type 0
-WrapsGive p old new w result = GoesTo p old new w result × AsksNoReader result
-
--- the saved texts of a run, read as one input
-abbrev pub round_of : SessionState → Progress
-round_of s = read_saved s.limits s.saved (progress_of s)
-
--- a session that stopped is over, by the returned cause; otherwise it continues
-abbrev pub IsLeft : {A : Type 0} → SessionState → Result A Stop → Type 0
-IsLeft new (Ok done) = new.over ≡ None
-IsLeft new (Err stops.Finished) = ⊥
-IsLeft new (Err (stops.Ended causes.Done)) = ⊥
-IsLeft new (Err (stops.Ended (causes.Frozen fault))) = ⊥
-IsLeft new (Err (stops.Ended cause)) = new.over ≡ Some cause

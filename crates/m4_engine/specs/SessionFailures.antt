@@ -1,16 +1,14 @@
 -- Session failures: how often readers and writers failed in a call of a session, by what it answers.
 -- Believed. Manual: "Invoking m4".
--- Words: ByAnswer, WriteFails, ThreeFail, ReadFails, SourceFails, SourcesFail, MessageWriteFails, ReloadFails,
--- SparesBy.
+-- Words: ByAnswer, WriteFails, ThreeFail, ReadFails, MessageWriteFails, ReloadFails.
 use Rattle.std.specs.Prelude.{◌≡◌, ℕ, List, Option, Result, Ok, Err}
-use Rattle.m4_state.specs.Device.{Script, one_more}
+use Rattle.m4_state.specs.Device.{one_more}
 use Rattle.m4_engine.specs.declared.ending.Cause.TheVariants as causes
-use Rattle.m4_engine.specs.declared.source.Source.{Source as RunSource}
 use Rattle.m4_engine.specs.declared.stop.Stop.{Stop}
 use Rattle.m4_engine.specs.declared.stop.Stop.TheVariants as stops
-use Rattle.m4_engine.specs.RunSources.{AllPairs, IsFaultBy, HasFailed, is_sound, AnyFailed}
-use Rattle.m4_engine.specs.Writers.{Failures, Three, NoneFailed, OneFailed, ByCause, IsSpared, NoneOfThree}
-use Rattle.m4_engine.specs.Writers.{OneOfThree, Spares}
+use Rattle.m4_engine.specs.RunSources.{IsFaultBy}
+use Rattle.m4_engine.specs.Writers.{Failures, Three, NoneFailed, OneFailed, ByCause, NoneOfThree}
+use Rattle.m4_engine.specs.Writers.{OneOfThree}
 
 -- by a result: one writer failed if the run ends by a write fault, and otherwise none did
 abbrev pub ByAnswer : {A : Type 0} → Result A Stop → Type 0 → Type 0 → Type 0
@@ -31,17 +29,6 @@ abbrev pub ReadFails : {A : Type 0} → Result A Stop → ℕ → ℕ → Type 0
 ReadFails (Err (stops.Ended causes.Read)) old new = new ≡ one_more old
 ReadFails result old new = new ≡ old
 
--- the same for one of a run's sources, and for all of them: the reader failed after all its bytes
-abbrev pub SourceFails : {A R : Type 0} → (R → Option Script) → (R → ℕ) → Result A Stop → RunSource R → RunSource R
-    → Type 0
-SourceFails script failures (Err (stops.Ended causes.Read)) before after = HasFailed script failures before after
-SourceFails script failures result before after = is_sound failures before after
-
-abbrev pub SourcesFail : {A R : Type 0} → (R → Option Script) → (R → ℕ) → Result A Stop → List (RunSource R)
-    → List (RunSource R) → Type 0
-SourcesFail script failures (Err (stops.Ended causes.Read)) before after = AnyFailed script failures before after
-SourcesFail script failures result before after = AllPairs (is_sound failures) before after
-
 -- the same for a call with one writer, by its number of failures before and after
 abbrev pub MessageWriteFails : {A : Type 0} → Result A Stop → ℕ → ℕ → Type 0
 MessageWriteFails answer old new = ByAnswer answer (new ≡ old) (new ≡ one_more old)
@@ -50,9 +37,3 @@ MessageWriteFails answer old new = ByAnswer answer (new ≡ old) (new ≡ one_mo
 abbrev pub ReloadFails : {A : Type 0} → Result A Stop → ℕ → ℕ → Type 0
 ReloadFails (Err (stops.Ended (causes.Frozen fault))) old new = IsFaultBy fault old new
 ReloadFails answer old new = new ≡ old
-
--- by a result: a call that ends the run by another cause than a write fault writes no frozen text
-abbrev pub SparesBy : {A : Type 0} → Result A Stop → Three (Option (List ℕ)) → Type 0
-SparesBy (Ok done) w = Unit {0}
-SparesBy (Err stops.Finished) w = IsSpared w
-SparesBy (Err (stops.Ended cause)) w = Spares cause w

@@ -13,9 +13,9 @@ use Rattle.m4_engine.specs.File.{Source, Opened, after_source, after_sources}
 use Rattle.m4_engine.specs.RunSources.{script_of, ConsumesOnly, AllConsumeOnly}
 use Rattle.m4_engine.specs.Settled.{settled_in}
 use Rattle.m4_engine.specs.Session.{SessionState, progress_of, Completed}
-use Rattle.m4_engine.specs.SessionFailures.{SourceFails, SourcesFail}
 use Rattle.m4_engine.specs.Writers.{Contents}
 use Rattle.m4_engine.specs.OnePass.{IsRead, IsCurrent, AreRead, AskedAt, EndedBy, Reached, IsPast}
+use Rattle.m4_engine.specs.SessionSteps.{SourceFails, SourcesFail}
 
 -- a source that ended the run: so far it was read
 abbrev pub EndsWithin : {R : Type 0} → (R → Option Script) → RunSource R → RunSource R → SessionState → Contents → Cause

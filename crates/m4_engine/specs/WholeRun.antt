@@ -2,19 +2,15 @@
 -- Believed. Manual: "Invoking m4", "Fast loading of frozen state".
 -- Words: wrapped_by, WroteAll, WrotePrefix, RunGives, HasFrozen, FrozenBegan, FrozenBy, FrozenLast,
 -- NothingIsDone.
-use Rattle.std.specs.Prelude.{◌≡◌, ℕ, Bool, false, List, Option, Some, None, Result, Ok, Err, ◌⊎◌}
+use Rattle.std.specs.Prelude.{◌≡◌, ℕ, Bool, false, List, Option, Some, None, ◌⊎◌}
 use Rattle.m4_state.specs.Device.{with_bytes, HasBegun}
 use Rattle.m4_frozen.specs.declared.fault.FrozenKind.{FrozenKind}
 use Rattle.m4_frozen.specs.declared.fault.FrozenKind.TheVariants as kinds
 use Rattle.m4_engine.specs.declared.ending.Cause.{Cause}
 use Rattle.m4_engine.specs.declared.ending.Cause.TheVariants as causes
 use Rattle.m4_engine.specs.declared.ending.Ending.{Ending}
-use Rattle.m4_engine.specs.declared.stop.Stop.{Stop}
-use Rattle.m4_engine.specs.declared.stop.Stop.TheVariants as stops
-use Rattle.m4_engine.specs.Expansion.{Limits, Ends}
-use Rattle.m4_engine.specs.File.{Source, Progress}
-use Rattle.m4_engine.specs.Wraps.{after_wraps}
-use Rattle.m4_engine.specs.Run.{RunResult, result_of, saved_after}
+use Rattle.m4_engine.specs.Expansion.{Ends}
+use Rattle.m4_engine.specs.Run.{RunResult}
 use Rattle.m4_engine.specs.Writers.{Contents, Three, IsSpared}
 use Rattle.m4_engine.specs.Session.{is_saved}
 
@@ -84,14 +80,3 @@ pub record NothingIsDone {S : Type 0} (before after : S) (w : Three (Option (Lis
   pub output : (w.two).out_new ≡ (w.two).out_old
   pub messages : (w.two).messages_new ≡ (w.two).messages_old
   pub frozen : IsSpared w
-
--- the steps of the code: the result of a run after its sources, and the ending by the last result
-abbrev pub result_after : Bool → Limits → List Source → Progress → RunResult
-result_after freezes limits ss p = result_of freezes (saved_after ss p) (after_wraps limits p)
-
-abbrev pub ending_by : ℕ → Result Bool Stop → Ending
-ending_by status (Ok wrapped) = record { status = status; cause = causes.Done; wrapped = wrapped }
-ending_by status (Err stops.Finished) =
-    record { status = status; cause = causes.Done; wrapped = false }
-ending_by status (Err (stops.Ended cause)) =
-    record { status = status; cause = cause; wrapped = false }

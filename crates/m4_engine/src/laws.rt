@@ -3,8 +3,8 @@
 //! The contract of each function is a law of `specs/Laws.antt`.
 
 ghost use Rattle.m4_engine.specs.Laws.{Chain, ExpansionRules, ExpandRules, LargerCalls, LargerNesting, MomentsLead};
-ghost use Rattle.m4_engine.specs.Laws.{OneStart, RunEnds, SameDenotation, SettledBegins, Split, SplitStates, TwoRuns};
-ghost use Rattle.m4_engine.specs.Laws.{WrapsRules};
+ghost use Rattle.m4_engine.specs.Laws.{OneStart, OneState, RunEnds, SameDenotation, SettledBegins, Split, SplitStates};
+ghost use Rattle.m4_engine.specs.Laws.{TwoRuns, WrapsRules};
 
 /// An expansion with nested calls is the result of its turns: no bound on them is ever reached.
 pub fn expansion_rules<S, F, D>()
@@ -33,6 +33,12 @@ pub fn wraps_rules()
 pub fn settled_begins()
     // one pass: for any bytes that follow, and any later sources
     ensures { SettledBegins }
+{}
+
+/// A run starts from the fresh state, or from the state that the directives of its frozen file denote. Otherwise the
+/// frozen file is refused. Manual: "Fast loading of frozen state".
+pub fn one_state()
+    ensures { OneState }
 {}
 
 /// A run starts from the fresh state, from the state that the directives of its frozen file denote, or with

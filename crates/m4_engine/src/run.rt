@@ -8,11 +8,11 @@ ghost use Rattle.m4_engine.specs.RunSources.{DescribeSources};
 ghost use Rattle.m4_engine.specs.RunPromises.{IsRun};
 ghost use Rattle.m4_engine.specs.RunSteps.{WritesInOrder, WritesToEnd, state_at_end, FreezesState};
 ghost use Rattle.m4_engine.specs.RunSteps.{UsesLast, UsesWriters, MarksAnyUnopened};
-ghost use Rattle.m4_engine.specs.Session.{IsOpen, IsLeft, progress_of};
+ghost use Rattle.m4_engine.specs.Session.{IsOpen, progress_of};
 ghost use Rattle.m4_engine.specs.SessionFailures.{WriteFails};
 ghost use Rattle.m4_engine.specs.SourcesRead.{ReadsSources, ReadsToEnd};
-ghost use Rattle.m4_engine.specs.WholeRun.{ending_by};
 ghost use Rattle.m4_engine.specs.Writers.{all_three, both};
+ghost use Rattle.m4_engine.specs.SessionSteps.{IsLeft, ending_by};
 
 use crate::ending::{Cause, Ending};
 use crate::options::Options;

@@ -3,11 +3,12 @@
 
 ghost use Rattle.std.specs.Prelude.{◌≡◌, true, false, [], IfOk, IfErr, OnOk, Err};
 ghost use Rattle.m4_engine.specs.Writers.{all_three, both};
-ghost use Rattle.m4_engine.specs.Session.{IsOpen, answer_by, over_after, session_from, fresh_session, ReloadGives};
-ghost use Rattle.m4_engine.specs.Session.{FileGives, MissingGives, FinishGives, FreezeGives, FreezeUses, WrapsGive};
+ghost use Rattle.m4_engine.specs.Session.{IsOpen, session_from, fresh_session, ReloadGives};
+ghost use Rattle.m4_engine.specs.Session.{FileGives, MissingGives, FinishGives, FreezeGives, FreezeUses};
 ghost use Rattle.m4_engine.specs.Session.{last_state, session_after_wraps, is_saved, status_at, progress_of};
 ghost use Rattle.m4_engine.specs.Order.{InSomeRound, InEnd, Breaks, BreaksBy, FileBreaks};
 ghost use Rattle.m4_engine.specs.SessionFailures.{ReadFails, ReloadFails, WriteFails, ThreeFail, MessageWriteFails};
+ghost use Rattle.m4_engine.specs.SessionSteps.{answer_by, over_after, WrapsGive};
 
 use crate::ending::Cause;
 use crate::machine::Machine;

@@ -8,8 +8,8 @@ use Rattle.std.proofs.lemmas.List.{length-append}
 use Rattle.std.specs.List.{list_all}
 use Rattle.std.specs.Char.{digit_value, is_digit}
 use Rattle.m4_input.specs.Ascii.{digit_zero}
-use Rattle.m4_eval.specs.Literal.{colon}
-use Rattle.m4_eval.specs.Literal.{number_in, AreDigits, BeginsWithZero, SaysRadix, IsRadixPrefix, decimal, octal}
+use Rattle.m4_eval.specs.ReadExpression.{colon, number_in}
+use Rattle.m4_eval.specs.Literal.{AreDigitsOf, BeginsWithZero, SaysRadix, IsRadixPrefix, decimal, octal}
 use Rattle.m4_eval.specs.Literal.{hexadecimal, binary, stated, IsLiteral}
 use Rattle.m4_eval.specs.ReadExpression.{is_alphanumeric, run_of, number_of, of_length, after_radix, in_stated_radix}
 use Rattle.m4_eval.specs.ReadExpression.{in_marked_radix, in_radix_from, is_either, after_zero, literal_at}
@@ -42,7 +42,7 @@ run_is radix (b ∷ digits) rest l h e =
     ∙ ap (λ y. b ∷ y) (run_is radix digits rest l p.1 e)
 
 -- digits are a number
-pub number_is : (radix n : ℕ) (digits : List ℕ) → AreDigits radix n digits → number_of radix digits ≡ Some n
+pub number_is : (radix n : ℕ) (digits : List ℕ) → AreDigitsOf radix n digits → number_of radix digits ≡ Some n
 number_is radix n [] h = absurd (h.some refl)
 number_is radix n (b ∷ digits) h =
     ap (λ t. cond t (Some (number_in radix (b ∷ digits))) None) h.below ∙ ap Some h.value
@@ -56,14 +56,14 @@ pub record ReadWhole (n : ℕ) (literal rest : List ℕ) : Type 0 where
   pub read : literal_at first (more ++ rest) ≡ Some (n, length more)
 
 -- after a mark of one byte
-pub marked : (radix n : ℕ) (digits rest : List ℕ) → radix ≤ 36 → AreDigits radix n digits → EndsRun rest
+pub marked : (radix n : ℕ) (digits rest : List ℕ) → radix ≤ 36 → AreDigitsOf radix n digits → EndsRun rest
     → in_marked_radix radix (digits ++ rest) ≡ Some (n, suc (length digits))
 marked radix n digits rest l h e =
     ap (λ y. of_length (suc (length y)) (number_of radix y)) (run_is radix digits rest l h.below e)
     ∙ ap (of_length (suc (length digits))) (number_is radix n digits h)
 
 -- after a first digit
-pub from_digit : (radix n b : ℕ) (digits rest : List ℕ) → radix ≤ 36 → AreDigits radix n (b ∷ digits) → EndsRun rest
+pub from_digit : (radix n b : ℕ) (digits rest : List ℕ) → radix ≤ 36 → AreDigitsOf radix n (b ∷ digits) → EndsRun rest
     → in_radix_from radix b (digits ++ rest) ≡ Some (n, length digits)
 from_digit radix n b digits rest l h e =
     let p = and_parts (is_digit b radix) (list_all (λ d. is_digit d radix) digits) h.below in
@@ -103,7 +103,7 @@ no_mark_of_octal c h = record {
 zero_octal : (c : ℕ) (x : List ℕ) → IsNoMark c → after_zero (c ∷ x) ≡ in_radix_from 8 digit_zero (c ∷ x)
 zero_octal c x h = rw (h.x, h.b, h.r) refl
 
-pub octal_zero : (n : ℕ) (digits rest : List ℕ) → AreDigits 8 n (digit_zero ∷ digits) → EndsRun rest
+pub octal_zero : (n : ℕ) (digits rest : List ℕ) → AreDigitsOf 8 n (digit_zero ∷ digits) → EndsRun rest
     → after_zero (digits ++ rest) ≡ Some (n, length digits)
 octal_zero n [] [] h e = ap (λ v. Some (v, 0)) h.value
 octal_zero n [] (c ∷ rest) h e =
@@ -115,8 +115,8 @@ octal_zero n (c ∷ digits) rest h e =
     ∙ from_digit 8 n digit_zero (c ∷ digits) rest (omega arith) h e
 
 -- after `0r`
-pub in_radix_said : (n radix : ℕ) (said digits rest : List ℕ) → AreDigits 10 radix said → 2 ≤ radix → radix ≤ 36
-    → AreDigits radix n digits → EndsRun rest
+pub in_radix_said : (n radix : ℕ) (said digits rest : List ℕ) → AreDigitsOf 10 radix said → 2 ≤ radix → radix ≤ 36
+    → AreDigitsOf radix n digits → EndsRun rest
     → in_stated_radix (said ++ (colon ∷ digits ++ rest)) ≡ Some (n, suc (suc (length said + length digits)))
 in_radix_said n radix said digits rest a l m d e =
     let run = run_is 10 said (colon ∷ digits ++ rest) (omega arith) a.below refl in
@@ -135,7 +135,7 @@ in_radix_said n radix said digits rest a l m d e =
     both = rw (le-leb 2 radix l, le-leb radix 36 m) refl
 
 -- a decimal literal
-decimal_whole : (n : ℕ) (digits rest : List ℕ) → AreDigits 10 n digits → (BeginsWithZero digits → ⊥) → EndsRun rest
+decimal_whole : (n : ℕ) (digits rest : List ℕ) → AreDigitsOf 10 n digits → (BeginsWithZero digits → ⊥) → EndsRun rest
     → ReadWhole n digits rest
 decimal_whole n [] rest h z e = absurd (h.some refl)
 decimal_whole n (b ∷ digits) rest h z e =
@@ -150,15 +150,15 @@ decimal_whole n (b ∷ digits) rest h z e =
           ∙ from_digit 10 n b digits rest (omega arith) h e;
     }
 
-octal_whole : (n : ℕ) (digits rest : List ℕ) → AreDigits 8 n digits → BeginsWithZero digits → EndsRun rest
+octal_whole : (n : ℕ) (digits rest : List ℕ) → AreDigitsOf 8 n digits → BeginsWithZero digits → EndsRun rest
     → ReadWhole n digits rest
 octal_whole n [] rest h z e = absurd z
 octal_whole n (b ∷ digits) rest h z e =
-    let h' : AreDigits 8 n (digit_zero ∷ digits) = subst (λ c. AreDigits 8 n (c ∷ digits)) z h in
+    let h' : AreDigitsOf 8 n (digit_zero ∷ digits) = subst (λ c. AreDigitsOf 8 n (c ∷ digits)) z h in
     record { first = digit_zero; more = digits; split = ap (λ c. c ∷ digits) z; digit = refl; read = octal_zero n digits rest h' e }
 
 -- `0`, a mark and digits
-marked_whole : (radix n mark : ℕ) (prefix digits rest : List ℕ) → radix ≤ 36 → AreDigits radix n digits → EndsRun rest
+marked_whole : (radix n mark : ℕ) (prefix digits rest : List ℕ) → radix ≤ 36 → AreDigitsOf radix n digits → EndsRun rest
     → ((x : List ℕ) → literal_at digit_zero (mark ∷ x) ≡ in_marked_radix radix x)
     → prefix ≡ digit_zero ∷ mark ∷ []
     → ReadWhole n (prefix ++ digits) rest
@@ -172,8 +172,8 @@ marked_whole radix n mark prefix digits rest l h e f p =
     }
 
 -- `0r`, a radix, `:` and digits
-said_whole : (radix n mark : ℕ) (prefix said digits rest : List ℕ) → AreDigits 10 radix said → 2 ≤ radix → radix ≤ 36
-    → AreDigits radix n digits → EndsRun rest
+said_whole : (radix n mark : ℕ) (prefix said digits rest : List ℕ) → AreDigitsOf 10 radix said → 2 ≤ radix → radix ≤ 36
+    → AreDigitsOf radix n digits → EndsRun rest
     → ((x : List ℕ) → literal_at digit_zero (mark ∷ x) ≡ in_stated_radix x)
     → prefix ≡ (digit_zero ∷ mark ∷ []) ++ said ++ colon ∷ []
     → ReadWhole n (prefix ++ digits) rest
@@ -196,8 +196,8 @@ said_whole radix n mark prefix said digits rest a l m d e f p =
 pub literal_whole : (n : ℕ) (literal rest : List ℕ) → IsLiteral n literal → EndsRun rest → ReadWhole n literal rest
 literal_whole n literal rest h e = subst (λ y. ReadWhole n y rest) (sym h.spelled) (by_prefix h.is_prefix)
   where
-    ends : (radix : ℕ) → h.radix ≡ radix → AreDigits radix n h.digits
-    ends radix f = subst (λ k. AreDigits k n h.digits) f h.are_digits
+    ends : (radix : ℕ) → h.radix ≡ radix → AreDigitsOf radix n h.digits
+    ends radix f = subst (λ k. AreDigitsOf k n h.digits) f h.are_digits
 
     by_prefix : IsRadixPrefix h.radix h.prefix h.digits → ReadWhole n (h.prefix ++ h.digits) rest
     by_prefix (decimal a b z) = subst (λ y. ReadWhole n (y ++ h.digits) rest) (sym b) (decimal_whole n h.digits rest (ends 10 a) z e)

@@ -5,7 +5,7 @@ use Rattle.std.proofs.Common.{◌∙◌, subst, arith, w32, le-leb, ◌⊎◌, i
 use Rattle.std.proofs.Math.ListN.{drop_of_length-le}
 use Rattle.m4_eval.specs.ReadExpression.{in_radix_from, in_marked_radix, in_stated_radix, after_radix}
 use Rattle.m4_eval.proofs.Read.{run_front}
-use Rattle.m4_eval.specs.Literal.{colon}
+use Rattle.m4_eval.specs.ReadExpression.{colon}
 use Rattle.std.specs.Prelude.{nat_le, ◌==◌}
 use Rattle.std.proofs.lemmas.Bool.{lt-leb, cases_lt}
 use Rattle.std.proofs.lemmas.Int.{int_wrap-mul_left, int_wrap-add_same, int_wrap_fits, to_z_pos}

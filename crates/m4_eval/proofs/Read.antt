@@ -7,7 +7,7 @@ use Rattle.std.proofs.lemmas.Bool.{and_parts, and_from, or_cases, eqb-true, eqb-
 use Rattle.std.specs.List.{list_all}
 use Rattle.std.specs.Char.{is_digit}
 use Rattle.m4_input.specs.Ascii.{is_space, open_parenthesis, close_parenthesis, digit_zero}
-use Rattle.m4_eval.specs.Literal.{colon}
+use Rattle.m4_eval.specs.ReadExpression.{colon}
 use Rattle.m4_eval.specs.declared.operator.Sign.{Sign}
 use Rattle.m4_eval.specs.declared.operator.Operator.{Operator}
 use Rattle.m4_eval.specs.declared.operator.Operator.TheVariants.{Multiply, Divide, Remainder, Add, Subtract}
@@ -16,7 +16,7 @@ use Rattle.m4_eval.specs.declared.operator.Operator.TheVariants.{GreaterOrEqual,
 use Rattle.m4_eval.specs.declared.operator.Operator.TheVariants.{BitOr, And, Or}
 use Rattle.m4_eval.specs.Expression.{Expression, Number, Group, Signed, Joined, byte_of, symbol_of, level_of}
 use Rattle.m4_eval.specs.Expression.{operand_level}
-use Rattle.m4_eval.specs.Literal.{AreDigits, IsRadixPrefix, decimal, octal, hexadecimal, binary, stated, IsLiteral}
+use Rattle.m4_eval.specs.Literal.{AreDigitsOf, IsRadixPrefix, decimal, octal, hexadecimal, binary, stated, IsLiteral}
 use Rattle.m4_eval.specs.SpellsExpression.{AreSpaces, SpellsAt, SpellsExpression}
 use Rattle.m4_eval.specs.ReadExpression.{Frame, Opened, Prefixed, Left, Reading, Before, After, is_alphanumeric}
 use Rattle.m4_eval.specs.ReadExpression.{run_of, number_of, of_length, after_radix, in_stated_radix, in_marked_radix}
@@ -134,7 +134,7 @@ run_front (b ∷ x) = go (run_front x) (is_alphanumeric b)
     go again true = ap (λ y. b ∷ y) again
     go again false = refl
 
-number_found : (radix n : ℕ) (digits : List ℕ) → number_of radix digits ≡ Some n → AreDigits radix n digits
+number_found : (radix n : ℕ) (digits : List ℕ) → number_of radix digits ≡ Some n → AreDigitsOf radix n digits
 number_found radix n [] e = never e
 number_found radix n (b ∷ digits) e =
     test_case (list_all (λ d. is_digit d radix) (b ∷ digits)) e
@@ -186,7 +186,7 @@ take_past c n (b ∷ x) z =
 -- after the digits of a radix
 after_is : (radix r : ℕ) (mark said rest : List ℕ) (p : ℕ × ℕ)
     → mark ≡ digit_zero ∷ r ∷ [] → (mark ≡ codes "0r") ⊎ (mark ≡ codes "0R")
-    → AreDigits 10 radix said → after_radix radix said rest ≡ Some p
+    → AreDigitsOf 10 radix said → after_radix radix said rest ≡ Some p
     → IsLiteralAt digit_zero (r ∷ (said ++ rest)) p
 after_is radix r mark said [] p m im a e = never e
 after_is radix r mark said (c ∷ z) p m im a e =

@@ -9,7 +9,7 @@ use Rattle.std.specs.List.{list_all}
 use Rattle.std.specs.Char.{digit_value, is_digit}
 use Rattle.std.specs.Int.Digits.{number_from_digits_after}
 use Rattle.std.specs.Fmt.{digits_onto, digits, digit_glyph}
-use Rattle.m4_eval.specs.Literal.{AreDigits}
+use Rattle.m4_eval.specs.Literal.{AreDigitsOf}
 use Rattle.m4_eval.specs.InRadix.{padded}
 use Rattle.m4_eval.specs.Laws.{DigitsAreRead}
 use Rattle.m4_eval.proofs.WrittenDigits.{digits_onto-nil}
@@ -95,10 +95,10 @@ module _ (base : ℕ) (low : 2 ≤ base) (high : base ≤ 36) where
   powers zero = omega (arith, to_the_none)
   powers (suc k) = let m = mul-le-mul (powers k) low in omega (arith, m, pow-suc base k, pow-suc 2 k)
 
-  pub spelled : (width n : ℕ) → n < 2 ^ 32 → AreDigits base n (padded width (digits base false n))
+  pub spelled : (width n : ℕ) → n < 2 ^ 32 → AreDigitsOf base n (padded width (digits base false n))
   spelled width n h =
       let r = reads 64 n [] (let p = powers 64 in omega (arith, h, p)) refl in
-      subst (λ (l : List ℕ). AreDigits base n (padded width l)) (digits_onto-nil base n)
+      subst (λ (l : List ℕ). AreDigitsOf base n (padded width l)) (digits_onto-nil base n)
       (let x = digits_onto 64 base false n [] in
       let j = width - length x in
       record {

@@ -8,7 +8,7 @@ use Rattle.m4_eval.specs.declared.frame.Frame.{Frame}
 use Rattle.m4_eval.specs.declared.frame.Frame.TheVariants.{Opened, Prefixed, Left}
 use Rattle.m4_eval.specs.declared.operator.Operator.{Operator}
 use Rattle.m4_eval.specs.Expression.{level_of}
-use Rattle.m4_eval.specs.Value.{wrapped, signed, joined_from}
+use Rattle.m4_eval.specs.Value.{wrapped, sign_value, joined_from}
 use Rattle.m4_eval.specs.ReadExpression.{◌>>=◌, literal_at, sign_at, operator_at}
 
 -- the value of an operator and two operands; an operand in which a zero divides has none
@@ -24,7 +24,7 @@ pub record Place : Type 0 where
 abbrev pub with_signs : List Frame → Option ℤ → Place
 with_signs [] v = record { waiting = []; current = Some v }
 with_signs (Opened ∷ w) v = record { waiting = Opened ∷ w; current = Some v }
-with_signs (Prefixed s ∷ w) v = with_signs w (option_map (signed s) v)
+with_signs (Prefixed s ∷ w) v = with_signs w (option_map (sign_value s) v)
 with_signs (Left d o ∷ w) v = record { waiting = Left d o ∷ w; current = Some v }
 
 -- an operand joined with the open left operands whose operators bind at least as tightly as a level

@@ -1,4 +1,4 @@
--- Evaluated: the value of the text of an expression.
+-- Evaluated: the value of the text of an expression. Its point is `IsEvaluated`.
 -- Believed: IsEvaluated. `evaluated` computes it by `ReadExpression`, which finds exactly the expression that a text
 -- spells, by the law `ReadsExpressions`. Manual: "Evaluating integer expressions". Words: IsEvaluated, evaluated.
 use Rattle.std.specs.Prelude.{◌≡◌, ℕ, ℤ, List, Option, Some, None}

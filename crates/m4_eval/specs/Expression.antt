@@ -1,5 +1,5 @@
 -- Expression: the syntax of an expression, one constructor for each production of the grammar.
--- Believed. Manual: "Evaluating integer expressions". Words: Expression, symbol_of, byte_of, level_of.
+-- Believed. Manual: "Evaluating integer expressions". Words: Expression, byte_of, operator_row.
 -- own: no `**`, no assignments, no `=` and no `?:`; `!=` and `==` bind tighter than `&`.
 use Rattle.std.specs.Prelude.{ℕ, List, codes}
 use Rattle.m4_eval.specs.declared.operator.Sign.{Sign}
@@ -26,47 +26,32 @@ byte_of Negative = 45
 byte_of Complement = 126
 byte_of Not = 33
 
--- the text of an operator
-abbrev pub symbol_of : Operator → List ℕ
-symbol_of Multiply = codes "*"
-symbol_of Divide = codes "/"
-symbol_of Remainder = codes "%"
-symbol_of Add = codes "+"
-symbol_of Subtract = codes "-"
-symbol_of ShiftLeft = codes "<<"
-symbol_of ShiftRight = codes ">>"
-symbol_of Less = codes "<"
-symbol_of LessOrEqual = codes "<="
-symbol_of Greater = codes ">"
-symbol_of GreaterOrEqual = codes ">="
-symbol_of Equal = codes "=="
-symbol_of NotEqual = codes "!="
-symbol_of BitAnd = codes "&"
-symbol_of BitXor = codes "^"
-symbol_of BitOr = codes "|"
-symbol_of And = codes "&&"
-symbol_of Or = codes "||"
+-- the text of an operator, and how tightly it binds: 1 is the loosest
+abbrev pub operator_row : Operator → List ℕ × ℕ
+operator_row Multiply = (codes "*", 10)
+operator_row Divide = (codes "/", 10)
+operator_row Remainder = (codes "%", 10)
+operator_row Add = (codes "+", 9)
+operator_row Subtract = (codes "-", 9)
+operator_row ShiftLeft = (codes "<<", 8)
+operator_row ShiftRight = (codes ">>", 8)
+operator_row Less = (codes "<", 7)
+operator_row LessOrEqual = (codes "<=", 7)
+operator_row Greater = (codes ">", 7)
+operator_row GreaterOrEqual = (codes ">=", 7)
+operator_row Equal = (codes "==", 6)
+operator_row NotEqual = (codes "!=", 6)
+operator_row BitAnd = (codes "&", 5)
+operator_row BitXor = (codes "^", 4)
+operator_row BitOr = (codes "|", 3)
+operator_row And = (codes "&&", 2)
+operator_row Or = (codes "||", 1)
 
--- how tightly an operator binds: 1 is the loosest
+abbrev pub symbol_of : Operator → List ℕ
+symbol_of o = (operator_row o).0
+
 abbrev pub level_of : Operator → ℕ
-level_of Or = 1
-level_of And = 2
-level_of BitOr = 3
-level_of BitXor = 4
-level_of BitAnd = 5
-level_of Equal = 6
-level_of NotEqual = 6
-level_of Less = 7
-level_of LessOrEqual = 7
-level_of Greater = 7
-level_of GreaterOrEqual = 7
-level_of ShiftLeft = 8
-level_of ShiftRight = 8
-level_of Add = 9
-level_of Subtract = 9
-level_of Multiply = 10
-level_of Divide = 10
-level_of Remainder = 10
+level_of o = (operator_row o).1
 
 -- tighter than all operators: a literal, a parenthesis, or one of these with signs before it
 abbrev pub operand_level : ℕ

@@ -1,15 +1,11 @@
--- InRadix: which numbers are a radix, and how a value is written in one.
+-- InRadix: which numbers are a radix, and how a value is written in one. Its point is `in_radix`.
 -- Believed. Manual: "Evaluating integer expressions". Words: radix_at, in_radix.
 -- own: the sign is not counted in the width.
 use Rattle.std.specs.Prelude.{ℕ, nat_le, ◌&&◌, ◌-◌, ℤ, pos, negsuc, List, [], ◌∷◌, ◌++◌, false, Option, Some, None}
 use Rattle.std.specs.Prelude.{if◌then◌else◌, replicate, length, unsigned_abs}
 use Rattle.std.specs.Int.{is_negative}
 use Rattle.std.specs.Fmt.{digits}
-use Rattle.m4_input.specs.Ascii.{digit_zero}
-
--- b'-'
-abbrev pub minus_sign : ℕ
-minus_sign = 45
+use Rattle.m4_input.specs.Ascii.{minus_sign, digit_zero}
 
 -- the number as a radix, if it is one: 2 to 36
 abbrev pub radix_at : ℤ → Option ℕ

@@ -9,7 +9,7 @@ use Rattle.m4_eval.specs.SpellsExpression.{SpellsExpression}
 use Rattle.m4_eval.specs.ReadExpression.{expression_at}
 use Rattle.m4_eval.specs.EvaluateSteps.{value_at}
 use Rattle.m4_eval.specs.Value.{value}
-use Rattle.m4_eval.specs.Literal.{AreDigits}
+use Rattle.m4_eval.specs.Literal.{AreDigitsOf}
 use Rattle.m4_eval.specs.InRadix.{padded}
 use Rattle.m4_eval.specs.declared.evaluate.Evaluated.{Evaluated}
 use Rattle.m4_eval.specs.Evaluated.{IsEvaluated, evaluated}
@@ -38,7 +38,7 @@ ValuesAreRead = (text : List ℕ) → value_at text ≡ option_map value (expres
 abbrev pub DigitsAreRead : Type 0
 DigitsAreRead =
     (radix width : ℕ) (z : ℤ) → 2 ≤ radix → radix ≤ 36 → unsigned_abs z < 2 ^ 32
-    → AreDigits radix (unsigned_abs z) (padded width (digits radix false (unsigned_abs z)))
+    → AreDigitsOf radix (unsigned_abs z) (padded width (digits radix false (unsigned_abs z)))
 
 -- a text has exactly one result, and `evaluated` is it
 abbrev pub OneValue : Type 0

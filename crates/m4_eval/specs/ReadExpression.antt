@@ -2,11 +2,11 @@
 -- Not believed: the law `ReadsExpressions` ties it to SpellsExpression.
 -- Words: Frame, Reading, literal_at, operator_at, completed, joined_above, read_from, expression_at.
 use Rattle.std.specs.Prelude.{ℕ, zero, suc, ◌+◌, ◌==◌, nat_le, ◌&&◌, ◌||◌, Bool, true, false, List, [], ◌∷◌, drop}
-use Rattle.std.specs.Prelude.{length, Option, Some, None, option_map, option_and_then, if◌then◌else◌}
+use Rattle.std.specs.Prelude.{length, map, Option, Some, None, option_map, option_and_then, if◌then◌else◌}
 use Rattle.std.specs.List.{list_all}
-use Rattle.std.specs.Char.{is_digit}
+use Rattle.std.specs.Char.{digit_value, is_digit}
+use Rattle.std.specs.Int.Digits.{number_from_digits}
 use Rattle.m4_input.specs.Ascii.{is_space, open_parenthesis, close_parenthesis, digit_zero}
-use Rattle.m4_eval.specs.Literal.{colon}
 use Rattle.m4_eval.specs.declared.operator.Sign.{Sign}
 use Rattle.m4_eval.specs.declared.operator.Sign.TheVariants.{Positive, Negative, Complement, Not}
 use Rattle.m4_eval.specs.declared.operator.Operator.{Operator}
@@ -14,7 +14,6 @@ use Rattle.m4_eval.specs.declared.operator.Operator.TheVariants.{Multiply, Divid
 use Rattle.m4_eval.specs.declared.operator.Operator.TheVariants.{ShiftRight, Less, LessOrEqual, Greater, GreaterOrEqual}
 use Rattle.m4_eval.specs.declared.operator.Operator.TheVariants.{Equal, NotEqual, BitAnd, BitXor, BitOr, And, Or}
 use Rattle.m4_eval.specs.Expression.{Expression, Number, Group, Signed, Joined, level_of}
-use Rattle.m4_eval.specs.Literal.{number_in}
 
 -- one step, and then the next one if there was one
 infixl 10 ◌>>=◌
@@ -25,6 +24,14 @@ o >>= f = option_and_then f o
 infixl 10 ◌>>◌
 abbrev pub ◌>>◌ : {B : Type 0} → Bool → Option B → Option B
 test >> rest = if test then rest else None
+
+-- b':'
+abbrev pub colon : ℕ
+colon = 58
+
+-- the number that digits and letters spell in a radix
+abbrev pub number_in : ℕ → List ℕ → ℕ
+number_in radix digits = number_from_digits radix (map digit_value digits)
 
 -- a digit or a letter
 abbrev pub is_alphanumeric : ℕ → Bool

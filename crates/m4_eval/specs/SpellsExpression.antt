@@ -1,4 +1,4 @@
--- SpellsExpression: which texts are an expression.
+-- SpellsExpression: which texts are an expression. Its point is `SpellsExpression`.
 -- Believed. Its law: `OneExpression` (a text spells at most one). Manual: "Evaluating integer
 -- expressions". Words: AreSpaces, SpellsAt, SpellsExpression.
 -- own: operators of one level group to the left; white space may be before each token and after the
@@ -15,26 +15,19 @@ use Rattle.m4_eval.specs.Expression.{operand_level}
 abbrev pub AreSpaces : List ℕ → Type 0
 AreSpaces bytes = IsTrue (list_all is_space bytes)
 
--- The spellings of an expression, if its operators have to bind at least as tightly as a level. The
--- left operand of an operator is at the operator's own level, the right one at the next level: so
--- operators of one level group to the left.
+-- The spellings of an expression, if its operators have to bind at least as tightly as a level. The left operand of an
+-- operator is at the operator's own level, the right one at the next: so operators of one level group to the left.
 abbrev pub SpellsAt : ℕ → Expression → List ℕ → Type 0
-SpellsAt level (Number n) text =
-    (gap : List ℕ) × (literal : List ℕ) × AreSpaces gap × IsLiteral n literal
-    × (text ≡ gap ++ literal)
+SpellsAt level (Number n) text = (gap literal : List ℕ) × AreSpaces gap × IsLiteral n literal × (text ≡ gap ++ literal)
 SpellsAt level (Group e) text =
-    (gap : List ℕ) × (inner : List ℕ) × (end : List ℕ)
-    × AreSpaces gap × SpellsAt 1 e inner × AreSpaces end
+    (gap inner end : List ℕ) × AreSpaces gap × SpellsAt 1 e inner × AreSpaces end
     × (text ≡ gap ++ open_parenthesis ∷ inner ++ end ++ close_parenthesis ∷ [])
 SpellsAt level (Signed s e) text =
-    (gap : List ℕ) × (operand : List ℕ) × AreSpaces gap × SpellsAt operand_level e operand
-    × (text ≡ gap ++ byte_of s ∷ operand)
+    (gap operand : List ℕ) × AreSpaces gap × SpellsAt operand_level e operand × (text ≡ gap ++ byte_of s ∷ operand)
 SpellsAt level (Joined o d e) text =
-    (left : List ℕ) × (gap : List ℕ) × (right : List ℕ)
-    × (level ≤ level_of o) × SpellsAt (level_of o) d left × AreSpaces gap
+    (left gap right : List ℕ) × (level ≤ level_of o) × SpellsAt (level_of o) d left × AreSpaces gap
     × SpellsAt (suc (level_of o)) e right × (text ≡ left ++ gap ++ symbol_of o ++ right)
 
 -- a complete text
 abbrev pub SpellsExpression : Expression → List ℕ → Type 0
-SpellsExpression e text =
-    (front : List ℕ) × (end : List ℕ) × SpellsAt 1 e front × AreSpaces end × (text ≡ front ++ end)
+SpellsExpression e text = (front end : List ℕ) × SpellsAt 1 e front × AreSpaces end × (text ≡ front ++ end)

@@ -20,15 +20,17 @@ use Rattle.m4_state.specs.Builtin.{name_of}
 use Rattle.m4_state.proofs.CallerLaws.{builtin_named-name_of}
 use Rattle.m4_state.specs.Definition.{IsDefinition}
 use Rattle.m4_state.specs.Delimiters.{default_quotes, default_comments, chosen, IsPaired}
-use Rattle.m4_state.specs.State.{State, Diversion as NumberedText, IsDiversion, IsState, empty, pushed, with_text}
+use Rattle.m4_state.specs.State.{State, NumberedText, IsDiversion, IsState, empty, pushed, with_text}
 use Rattle.m4_state.specs.State.{holds_text}
 use Rattle.m4_state.specs.Table.{Pairs, byte_order, with_push, IsStack}
 use Rattle.m4_state.proofs.Pairs.{both}
 use Rattle.m4_state.proofs.TextsByNumber.{with_text-some}
-use Rattle.m4_frozen.specs.Denote.{builtin_or_placeholder, with_directive, issued_by, denote}
+use Rattle.m4_frozen.specs.Denote.{with_directive, issued_by, denote}
+use Rattle.m4_frozen.proofs.Cases.{definitions, builtin_or_placeholder}
 use Rattle.m4_frozen.specs.Directive.{Directive, Quotes, Comments, Diversion}
-use Rattle.m4_frozen.specs.Freeze.{same_delimiters, unless_default, definition, definitions, diversion, last_number}
+use Rattle.m4_frozen.specs.Freeze.{unless_default, definition, last_number}
 use Rattle.m4_frozen.specs.Freeze.{current_unless_last, canonical}
+use Rattle.m4_frozen.specs.WriterSteps.{same_delimiters, diversion}
 use Rattle.m4_frozen.proofs.LastPlace.{AreBelow, AreBelowFirst, AreBelowFirst-next, find-missing, find-last}
 use Rattle.m4_frozen.proofs.LastPlace.{put-missing, put-last}
 

@@ -18,12 +18,14 @@ use Rattle.m4_state.specs.declared.delimiters.Delimiters.{Delimiters}
 use Rattle.m4_state.specs.Definition.{IsSizedDefinition}
 use Rattle.m4_state.specs.Delimiters.{default_quotes, default_comments}
 use Rattle.m4_state.specs.State.{State, IsState, IsSized, AreSizedDiversions, IsDiversion as IsDiversionOfState}
-use Rattle.m4_state.specs.State.{Diversion as NumberedText}
+use Rattle.m4_state.specs.State.{NumberedText}
 use Rattle.m4_state.specs.Table.{Pairs, IsSizedStack}
 use Rattle.m4_frozen.specs.Ascii.{newline, letter_Q, letter_C, letter_T, letter_F}
 use Rattle.m4_frozen.specs.Directive.{Directive, Quotes, Comments, Text, Builtin, Diversion}
-use Rattle.m4_frozen.specs.Freeze.{same_delimiters, unless_default, definition, definitions, diversion, last_number}
-use Rattle.m4_frozen.specs.Freeze.{current_unless_last, canonical, two_strings, spelling, header, end_line, freeze}
+use Rattle.m4_frozen.specs.Freeze.{unless_default, definition, last_number}
+use Rattle.m4_frozen.specs.Freeze.{current_unless_last, canonical, two_strings, spelling, freeze}
+use Rattle.m4_frozen.proofs.Cases.{definitions}
+use Rattle.m4_frozen.specs.WriterSteps.{same_delimiters, diversion, header, end_line}
 use Rattle.m4_frozen.specs.Spells.{AreDigits, value_of, IsNumber, IsSigned, IsPair, IsDiversion}
 use Rattle.m4_frozen.specs.Spells.{SpellsOne, IsSkippedLine, AreSkippedLines, AreLines, SpellsAll, Spells}
 use Rattle.m4_frozen.proofs.Digits.{value_from}

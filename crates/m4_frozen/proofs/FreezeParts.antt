@@ -6,7 +6,7 @@ use Rattle.std.specs.List.{flat_map, AllByRecursion}
 use Rattle.std.specs.Ordering.{int_eq}
 use Rattle.std.proofs.lemmas.List.{append-nil}
 use Rattle.std.proofs.lemmas.Grind.{flat_map-append}
-use Rattle.m4_state.specs.State.{State, IsDiversion, Diversion as NumberedText}
+use Rattle.m4_state.specs.State.{State, IsDiversion, NumberedText}
 use Rattle.m4_state.specs.declared.definition.Def.{Def}
 use Rattle.m4_state.specs.declared.delimiters.Delimiters.{Delimiters}
 use Rattle.m4_state.specs.Delimiters.{default_quotes, default_comments}
@@ -14,8 +14,10 @@ use Rattle.m4_state.specs.Table.{Pairs}
 use Rattle.m4_frozen.specs.Ascii.{letter_C, letter_Q}
 use Rattle.m4_frozen.specs.Directive.{Directive, Quotes, Comments, Diversion}
 use Rattle.m4_frozen.specs.WriterSteps.{delimiters_text, stack_text, names_text, texts_text, current_text, directives_text, frozen_text}
-use Rattle.m4_frozen.specs.Freeze.{last_number, same_delimiters, unless_default, definition, definitions, diversion}
-use Rattle.m4_frozen.specs.Freeze.{current_unless_last, two_strings, spelling, header, end_line, freeze}
+use Rattle.m4_frozen.specs.Freeze.{last_number, unless_default, definition}
+use Rattle.m4_frozen.specs.Freeze.{current_unless_last, two_strings, spelling, freeze}
+use Rattle.m4_frozen.proofs.Cases.{definitions}
+use Rattle.m4_frozen.specs.WriterSteps.{same_delimiters, diversion, header, end_line}
 
 -- the last number is one of 32 bits
 pub last_fits : (n : ℤ) (ds : List NumberedText) → FitsSigned w32 n → AllByRecursion IsDiversion ds → FitsSigned w32 (last_number n ds)

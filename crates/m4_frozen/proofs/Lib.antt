@@ -1,4 +1,5 @@
 pub mod ByteTests
+pub mod Cases
 pub mod Digits
 pub mod SkippedLines
 pub mod ReadBack

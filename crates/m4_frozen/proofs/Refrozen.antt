@@ -10,8 +10,9 @@ use Rattle.m4_state.specs.Builtin.{name_of}
 use Rattle.m4_state.specs.State.{State}
 use Rattle.m4_state.specs.Table.{Pairs}
 use Rattle.m4_frozen.specs.Directive.{Directive, Builtin as builtin_directive}
-use Rattle.m4_frozen.specs.Freeze.{definition, unless_default, diversion, current_unless_last, spelling, header}
-use Rattle.m4_frozen.specs.Freeze.{end_line, freeze}
+use Rattle.m4_frozen.specs.Freeze.{definition, unless_default, current_unless_last, spelling}
+use Rattle.m4_frozen.specs.Freeze.{freeze}
+use Rattle.m4_frozen.specs.WriterSteps.{diversion, header, end_line}
 use Rattle.m4_state.specs.Delimiters.{default_quotes, default_comments}
 use Rattle.m4_frozen.specs.Directive.{Quotes, Comments}
 use Rattle.m4_frozen.specs.Laws.{kept_by_older, as_older}

@@ -1,19 +1,14 @@
 -- A text that is read as its bytes come: a diversion's or a name's.
-use Rattle.std.proofs.Common.{◌≡◌, ◌≢◌, ℕ, zero, suc, ◌+◌, ◌-◌, ◌≤◌, ℤ, pos, negsuc, Bool, true, false, cond, ltb}
-use Rattle.std.proofs.Common.{eqb, List, [], ◌∷◌, ◌++◌, length, take, drop, min, Option, Some, None, unwrap_or}
-use Rattle.std.proofs.Common.{Ordering, Less, Equal, Greater, Result, Ok, Err, refl, sym, ap, subst, ◌∙◌}
+use Rattle.std.proofs.Common.{◌≡◌, ◌≢◌, ℕ, zero, suc, ◌+◌, ◌-◌, ◌≤◌, ℤ, pos, negsuc, true, false, ltb}
+use Rattle.std.proofs.Common.{eqb, List, [], ◌∷◌, ◌++◌, length, take, drop, min, Option, Some, None}
+use Rattle.std.proofs.Common.{Result, Ok, Err, refl, sym, ap, subst, ◌∙◌}
 use Rattle.std.proofs.Common.{append_assoc, arith, inl, inr}
 use Rattle.std.specs.Prelude.{FitsSigned, IfSome}
 use Rattle.std.specs.Int.{w32}
-use Rattle.std.specs.Cmp.{int_cmp_total, tied_itself}
-use Rattle.std.specs.Ordering.{int_cmp}
-use Rattle.std.specs.FinMap.{put}
-use Rattle.std.specs.FinMap.Entries.{by_order, find-put}
 use Rattle.std.proofs.lemmas.Bool.{lt-ltb, le-ltb}
 use Rattle.std.proofs.lemmas.List.{append-nil, length-append, take-append-drop}
 use Rattle.std.proofs.lemmas.Grind.{flat_map-append}
-use Rattle.m4_state.specs.State.{State, Diversion as NumberedText, empty, diverted, appended, with_text, text_at}
-use Rattle.m4_state.specs.State.{holds_text}
+use Rattle.m4_state.specs.State.{State, empty, diverted, appended}
 use Rattle.m4_frozen.specs.Ascii.{newline, letter_D}
 use Rattle.m4_frozen.specs.declared.fault.FrozenKind.TheVariants as kinds
 use Rattle.m4_frozen.specs.declared.fault.Refusal.{Refusal}
@@ -36,46 +31,7 @@ use Rattle.m4_frozen.proofs.ReadBack.{diversion_head-spelled, comma_on}
 use Rattle.m4_frozen.proofs.Parts.{LayoutSays, layout_says}
 use Rattle.m4_frozen.proofs.FirstFault.{by_letter, no_line}
 use Rattle.m4_frozen.proofs.ReadOn.{regroup, directives_at-skip, fold-push, stays_after}
-
--- the last text of a number counts
-put-put : (n : ℤ) (v w : List ℕ) (ds : List NumberedText)
-    → put int_cmp n w (put int_cmp n v ds) ≡ put int_cmp n w ds
-put-put n v w [] = rw (tied_itself int_cmp_total n) refl
-put-put n v w (d ∷ ds) = by (int_cmp n d.0) refl (put-put n v w ds)
-  where
-    by : (r : Ordering) → int_cmp n d.0 ≡ r → put int_cmp n w (put int_cmp n v ds) ≡ put int_cmp n w ds
-        → put int_cmp n w (by_order r ((n, v) ∷ d ∷ ds) ((d.0, v) ∷ ds) (d ∷ put int_cmp n v ds))
-        ≡ by_order r ((n, w) ∷ d ∷ ds) ((d.0, w) ∷ ds) (d ∷ put int_cmp n w ds)
-    by Less e rest = rw (tied_itself int_cmp_total n) refl
-    by Equal e rest = rw e refl
-    by Greater e rest = rw e (ap (λ (xs : List NumberedText). d ∷ xs) rest)
-
--- the text that was put is there
-text_at-put : (n : ℤ) (v : List ℕ) (ds : List NumberedText) → text_at (put int_cmp n v ds) n ≡ v
-text_at-put n v ds =
-    ap (λ (o : Option (List ℕ)). unwrap_or o []) (find-put int_cmp int_cmp_total n n v ds)
-    ∙ rw (tied_itself int_cmp_total n) refl
-
--- two texts in order, joined, are one
-with_text-twice : (n : ℤ) (a b : List ℕ) (ds : List NumberedText)
-    → with_text (with_text ds n a) n b ≡ with_text ds n (a ++ b)
-with_text-twice n [] b ds = refl
-with_text-twice n (x ∷ a) [] ds = ap (with_text ds n) (sym (append-nil (x ∷ a)))
-with_text-twice n (x ∷ a) (y ∷ b) ds =
-    rw (text_at-put n (text_at ds n ++ x ∷ a) ds, put-put n (text_at ds n ++ x ∷ a) ((text_at ds n ++ x ∷ a) ++ y ∷ b) ds)
-    (ap (λ (text : List ℕ). put int_cmp n text ds) (append_assoc (text_at ds n) (x ∷ a) (y ∷ b)))
-
-appended-twice : (s : State) (a b : List ℕ) → appended (appended s a) b ≡ appended s (a ++ b)
-appended-twice s a b = by (holds_text s.current)
-  where
-    by : (h : Bool) → record s {
-      diversions =
-          cond h (with_text (cond h (with_text s.diversions s.current a) s.diversions) s.current b)
-          (cond h (with_text s.diversions s.current a) s.diversions);
-    }
-        ≡ record s { diversions = cond h (with_text s.diversions s.current (a ++ b)) s.diversions }
-    by true = ap (λ (ds : List NumberedText). record s { diversions = ds }) (with_text-twice s.current a b s.diversions)
-    by false = refl
+use Rattle.m4_state.proofs.CallerLaws.{appended-twice}
 
 -- so it is with what is issued
 issued_by-twice : (z : ℤ) (a b : List ℕ)

@@ -14,7 +14,8 @@ use Rattle.m4_frozen.specs.declared.loading.Pause.{Pause}
 use Rattle.m4_frozen.specs.declared.window.Window.{Window}
 use Rattle.m4_frozen.specs.Blocks.{HasCome, IsUnderway, ReadsWindow, EndsAs}
 use Rattle.m4_frozen.specs.Directive.{Directive}
-use Rattle.m4_frozen.specs.FaultAt.{ExactFault, as_offset, reported, FaultAt, IsSettledBy, IsFaultOfFailed, read_fault}
+use Rattle.m4_frozen.specs.FaultAt.{ExactFault, reported, FaultAt, IsSettledBy, IsFaultOfFailed, read_fault}
+use Rattle.m4_frozen.specs.Blocks.{as_offset}
 use Rattle.m4_frozen.specs.Outcome.{IfFault, HasFault, IsFaultOf, Loads}
 use Rattle.m4_frozen.specs.Spells.{Spells}
 use Rattle.m4_frozen.specs.Underway.{EndsSo}

@@ -1,7 +1,7 @@
 -- Blocks: the progress of loading a file whose bytes arrive block by block.
 -- Not believed: private contracts cite it; `read_frozen` states the same for whole files.
 -- Words: HasTaken, Fills, MatchesScript, failures_after, IsUnderway.
-use Rattle.std.specs.Prelude.{◌≡◌, ℕ, ◌≤◌, List, ◌++◌, length, Option, IfSome, Result, Ok, Err, ◌⊎◌}
+use Rattle.std.specs.Prelude.{◌≡◌, ℕ, ◌≤◌, ◌-◌, ◌^◌, min, List, ◌++◌, length, Option, IfSome, Result, Ok, Err, ◌⊎◌}
 use Rattle.m4_state.specs.Device.{Script, after_bytes, one_more, IsAtEnd, IsAtFault}
 use Rattle.m4_frozen.specs.declared.fault.FrozenKind.TheVariants as kinds
 use Rattle.m4_frozen.specs.declared.fault.FrozenFault.{FrozenFault}
@@ -11,9 +11,13 @@ use Rattle.m4_frozen.specs.declared.loading.Pause.{Pause}
 use Rattle.m4_frozen.specs.declared.room.BlockRead.{BlockRead}
 use Rattle.m4_frozen.specs.declared.room.BlockRead.TheVariants as marks
 use Rattle.m4_frozen.specs.declared.window.Window.{Window}
-use Rattle.m4_frozen.specs.FaultAt.{ExactFault, as_offset, reported, FaultAt, IsSettledBy}
+use Rattle.m4_frozen.specs.FaultAt.{ExactFault, reported, FaultAt, IsSettledBy}
 use Rattle.m4_frozen.specs.Outcome.{Loads}
 use Rattle.m4_frozen.specs.Underway.{IsRead, HasPaused, EndsSo}
+
+-- an offset as it is reported: it stays at its greatest value
+abbrev pub as_offset : ℕ → ℕ
+as_offset n = min n (2 ^ 64 - 1)
 
 -- where the reader is, by its last answer: at its end, at its fault, or anywhere
 abbrev pub MatchesScript : BlockRead → Option Script → Type 0

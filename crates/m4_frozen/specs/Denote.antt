@@ -1,11 +1,10 @@
--- Denote: the meaning of a list of directives: a state, and the text that is issued first.
+-- Denote: the meaning of a list of directives: a state, and the text that is issued first. Its point is `denote`.
 -- Believed. Its law: `FreezeLoads` (the canonical directives of a state denote it).
 -- Manual: "Frozen file format". Words: with_directive, issued_by, denote.
 -- own: the text of a `D` is added to its diversion; for number 0 it is issued, and for a negative
 -- number it is discarded. An `F` of a builtin that isn't in the table is a placeholder.
-use Rattle.std.specs.Prelude.{ℕ, zero, pos, List, [], Option, Some, None, fold}
+use Rattle.std.specs.Prelude.{ℕ, zero, pos, List, [], Some, None, fold}
 use Rattle.std.specs.List.{flat_map}
-use Rattle.m4_state.specs.declared.builtin.Builtin.{Builtin}
 use Rattle.m4_state.specs.declared.definition.Def.{Def}
 use Rattle.m4_state.specs.declared.definition.Def.TheVariants as defs
 use Rattle.m4_state.specs.Builtin.{builtin_named}
@@ -13,14 +12,9 @@ use Rattle.m4_state.specs.State.{State, empty, pushed, with_quotes, with_comment
 use Rattle.m4_frozen.specs.declared.loading.Loaded.{Loaded}
 use Rattle.m4_frozen.specs.Directive.{Directive, Quotes, Comments, Text, Builtin as NamedBuiltin, Diversion}
 
--- the builtin, or a placeholder that keeps the name if the table has none
-abbrev pub builtin_or_placeholder : Option Builtin → List ℕ → Def
-builtin_or_placeholder None name = defs.Placeholder name
-builtin_or_placeholder (Some builtin) name = defs.Builtin builtin
-
--- the definition that an `F` of this builtin's name pushes
+-- the definition that an `F` of this builtin's name pushes: a placeholder that keeps the name if the table has none
 abbrev pub definition_named : List ℕ → Def
-definition_named name = builtin_or_placeholder (builtin_named name) name
+definition_named name = elim (builtin_named name) [ None ↦ defs.Placeholder name | Some b ↦ defs.Builtin b ]
 
 -- the state after a directive, one row of the table each
 abbrev pub with_directive : State → Directive → State

@@ -4,7 +4,7 @@ use Rattle.std.specs.Prelude.{ℕ, ℤ, List, [], ◌∷◌, ◌++◌, codes, de
 use Rattle.std.specs.Fmt.{signed_decimal}
 use Rattle.std.specs.List.{flat_map}
 use Rattle.m4_state.specs.declared.definition.Def.{Def}
-use Rattle.m4_state.specs.State.{State, Diversion}
+use Rattle.m4_state.specs.State.{State, NumberedText}
 use Rattle.m4_state.specs.Table.{Pairs}
 use Rattle.m4_frozen.specs.declared.loading.Loaded.{Loaded}
 use Rattle.m4_frozen.specs.Listing.{show, definition_line, diversion_line, issued_line}
@@ -27,7 +27,7 @@ abbrev pub names_lines : Pairs → List ℕ
 names_lines pairs = flat_map (λ p. stack_lines p.0 p.1) pairs
 
 -- the diversions
-abbrev pub texts_lines : List Diversion → List ℕ
+abbrev pub texts_lines : List NumberedText → List ℕ
 texts_lines diversions = flat_map diversion_line diversions
 
 -- the current number

@@ -9,7 +9,7 @@ use Rattle.m4_state.specs.declared.definition.Def.{Def}
 use Rattle.m4_state.specs.declared.definition.Def.TheVariants as defs
 use Rattle.m4_state.specs.declared.delimiters.Delimiters.{Delimiters}
 use Rattle.m4_state.specs.Builtin.{name_of}
-use Rattle.m4_state.specs.State.{Diversion}
+use Rattle.m4_state.specs.State.{NumberedText}
 use Rattle.m4_frozen.specs.declared.loading.Loaded.{Loaded}
 
 -- b'\\'
@@ -54,7 +54,7 @@ definition_line name (defs.Placeholder builtin) =
     codes "placeholder " ++ show name ++ codes " " ++ show builtin ++ codes "\n"
 
 -- a diversion's number and the length of its text
-abbrev pub diversion_line : Diversion → List ℕ
+abbrev pub diversion_line : NumberedText → List ℕ
 diversion_line d =
     codes "diversion " ++ signed_decimal d.0 ++ codes " " ++ decimal (length d.1) ++ codes "\n"
 

@@ -1,17 +1,34 @@
 -- The texts that the parts of the writer write, in the order of the code.
 -- Not believed: `freeze` is these texts joined (proofs/FreezeParts.antt).
-use Rattle.std.specs.Prelude.{ℕ, ℤ, pos, List, [], ◌∷◌, ◌++◌, decimal, length}
+use Rattle.std.specs.Prelude.{ℕ, ℤ, pos, Bool, ◌&&◌, List, [], ◌∷◌, ◌++◌, codes, decimal, length}
 use Rattle.std.specs.List.{flat_map}
 use Rattle.std.specs.Prelude.{if◌then◌else◌}
 use Rattle.std.specs.Ordering.{int_eq}
+use Rattle.std.specs.Str.{bytes_eq}
 use Rattle.m4_state.specs.declared.definition.Def.{Def}
 use Rattle.m4_state.specs.declared.delimiters.Delimiters.{Delimiters}
-use Rattle.m4_state.specs.State.{State, Diversion as NumberedText}
+use Rattle.m4_state.specs.State.{State, NumberedText}
 use Rattle.m4_state.specs.Table.{Pairs}
-use Rattle.m4_frozen.specs.Directive.{Diversion}
-use Rattle.m4_frozen.specs.Freeze.{same_delimiters, definition, diversion, spelling, two_strings, last_number, header, end_line}
+use Rattle.m4_frozen.specs.Directive.{Directive, Diversion}
+use Rattle.m4_frozen.specs.Freeze.{definition, spelling, two_strings, last_number}
 use Rattle.m4_state.specs.Delimiters.{default_quotes, default_comments}
 use Rattle.m4_frozen.specs.Ascii.{newline, comma, letter_C, letter_Q}
+
+-- whether two pairs of delimiters are the same
+abbrev pub same_delimiters : Delimiters → Delimiters → Bool
+same_delimiters d e = bytes_eq d.begin e.begin && bytes_eq d.end e.end
+
+-- the directive that sets the text of a diversion
+abbrev pub diversion : NumberedText → Directive
+diversion d = Diversion d.0 d.1
+
+-- the first two lines
+abbrev pub header : List ℕ
+header = codes "# m4 frozen state\nV1\n"
+
+-- the last line
+abbrev pub end_line : List ℕ
+end_line = codes "# End of frozen state file\n"
 
 -- the directive of a pair of delimiters, or nothing if it is the default
 abbrev pub delimiters_text : ℕ → Delimiters → Delimiters → List ℕ

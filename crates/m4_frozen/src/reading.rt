@@ -4,7 +4,7 @@ ghost use Rattle.std.specs.Prelude.{◌≡◌, ◌+◌, length, IfOk, IfErr, IfS
 ghost use Rattle.m4_state.specs.Device.{one_more};
 ghost use Rattle.m4_frozen.specs.Blocks as blocks;
 ghost use Rattle.m4_frozen.specs.Directive.{Directive as Said};
-ghost use Rattle.m4_frozen.specs.FaultAt.{as_offset};
+ghost use Rattle.m4_frozen.specs.Blocks.{as_offset};
 ghost use Rattle.m4_frozen.specs.Outcome.{IfFault, IsFaultOf, Loads};
 ghost use Rattle.m4_frozen.specs.Spells.{Spells};
 ghost use Rattle.m4_frozen.specs.declared.fault.FrozenKind.TheVariants as kinds;

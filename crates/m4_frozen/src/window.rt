@@ -2,7 +2,7 @@
 
 ghost use Rattle.std.specs.Prelude.{◌≡◌, ◌+◌, ◌++◌, ◌-◌, ◌*◌, ◌^◌, ◌<◌, ◌≤◌, [], min, length, drop, IfOk, OnOk};
 ghost use Rattle.m4_frozen.specs.Blocks as blocks;
-ghost use Rattle.m4_frozen.specs.FaultAt.{as_offset};
+ghost use Rattle.m4_frozen.specs.Blocks.{as_offset};
 ghost use Rattle.m4_frozen.specs.declared.fault.FrozenKind.TheVariants as kinds;
 ghost use Rattle.m4_frozen.specs.declared.room.BlockRead.TheVariants as marks;
 

@@ -254,23 +254,25 @@ module _ (q c : Delimiters) (s a : Option Script) (old h : Held) (x : List ℕ) 
   token_broken new InString e g = (
     x,
     h.pending,
-    record {
-      reads = r.reads;
-      sound = (r.first, ap (λ (i : Held). i.fault) g ∙ r.sound);
-      front = ap (λ (o : Option Def). front_from o q c h.pending) plain ∙ ap (front_by h.pending) (sym look ∙ e);
-      nothing = ap (λ (i : Held). i.pending) g;
-    },
+    r.reads,
+    (
+      ap (λ (o : Option Def). front_from o q c h.pending) plain ∙ ap (front_by h.pending) (sym look ∙ e),
+      ap (λ (i : Held). i.pending) g,
+    ),
+    r.first,
+    ap (λ (i : Held). i.fault) g ∙ r.sound,
     r.asks,
   )
   token_broken new InComment e g = (
     x,
     h.pending,
-    record {
-      reads = r.reads;
-      sound = (r.first, ap (λ (i : Held). i.fault) g ∙ r.sound);
-      front = ap (λ (o : Option Def). front_from o q c h.pending) plain ∙ ap (front_by h.pending) (sym look ∙ e);
-      nothing = ap (λ (i : Held). i.pending) g;
-    },
+    r.reads,
+    (
+      ap (λ (o : Option Def). front_from o q c h.pending) plain ∙ ap (front_by h.pending) (sym look ∙ e),
+      ap (λ (i : Held). i.pending) g,
+    ),
+    r.first,
+    ap (λ (i : Held). i.fault) g ∙ r.sound,
     r.asks,
   )
 
@@ -292,12 +294,12 @@ module _ (q c : Delimiters) (s a : Option Script) (old h : Held) (x : List ℕ) 
   pub token_stops : (b : Option Script) (new : Held) (f : InputFault) → found ≡ NeedsMore → BlockGives a b h new (Err f) → NextGives q c s b old new (Err f)
   token_stops b new (faults.EndInString line) e g = absurd g
   token_stops b new (faults.EndInComment line) e g = absurd g
-  token_stops b new faults.Read e g = let m = stopped_there b new faults.Read e g in (x, m.0, m.1)
-  token_stops b new faults.OutOfMemory e g = let m = stopped_there b new faults.OutOfMemory e g in (x, m.0, m.1)
+  token_stops b new faults.Read e g = let m = stopped_there b new faults.Read e g in (x, new.pending, m.0, m.1, refl)
+  token_stops b new faults.OutOfMemory e g = let m = stopped_there b new faults.OutOfMemory e g in (x, new.pending, m.0, m.1, refl)
 
 -- the fault of an earlier call
 pub next_again : (q c : Delimiters) (s : Option Script) (h : Held) (f : InputFault) → h.fault ≡ Some f → IsLasting f → NextGives q c s s h h (Err f)
 next_again q c s h (faults.EndInString line) e l = absurd l
 next_again q c s h (faults.EndInComment line) e l = absurd l
-next_again q c s h faults.Read e l = let k = stopped_before (wants_token q c) s h faults.Read e l in ([], k.0, k.1)
-next_again q c s h faults.OutOfMemory e l = let k = stopped_before (wants_token q c) s h faults.OutOfMemory e l in ([], k.0, k.1)
+next_again q c s h faults.Read e l = let k = stopped_before (wants_token q c) s h faults.Read e l in ([], h.pending, k.0, k.1, refl)
+next_again q c s h faults.OutOfMemory e l = let k = stopped_before (wants_token q c) s h faults.OutOfMemory e l in ([], h.pending, k.0, k.1, refl)

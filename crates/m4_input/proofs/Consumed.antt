@@ -17,8 +17,9 @@ use Rattle.m4_input.specs.Ascii.{is_letter, is_name_byte}
 use Rattle.m4_input.specs.Pending.{Pending, text_of, counted, newlines_in, consumed}
 use Rattle.m4_input.specs.Input.{longer}
 use Rattle.m4_input.proofs.Parts.{counted_twice, newlines_further}
-use Rattle.m4_input.specs.Token.{begins, is_enabled, run_length, before, level, unended, comment_found, name_unless}
-use Rattle.m4_input.specs.Token.{string_found, kind_by, kind_of, scan_kind, scan}
+use Rattle.m4_input.specs.Token.{begins, is_enabled, run_length, before, level, unended}
+use Rattle.m4_input.specs.Token.{kind_of, scan_kind, scan}
+use Rattle.m4_input.proofs.Cases.{name_unless, kind_by, comment_found, string_found}
 
 pub text-consumed : (n : ℕ) (p : Pending) → length (text_of (consumed n p)) ≡ length (text_of p) - n
 text-consumed n p =

@@ -8,10 +8,11 @@ use Rattle.m4_input.specs.declared.front.Kind.TheVariants.{CommentHere, NameHere
 use Rattle.m4_input.specs.declared.front.Scan.{Scan}
 use Rattle.m4_input.specs.declared.front.Scan.TheVariants.{Found, Broken, NeedsMore}
 use Rattle.m4_input.specs.Pending.{Pending, text_of, line_length}
-use Rattle.m4_input.specs.Token.{is_enabled, may_start, comment_found, string_found, name_unless, run_length, kind_by}
+use Rattle.m4_input.specs.Token.{is_enabled, may_start, run_length}
 use Rattle.m4_input.specs.Token.{kind_of, scan_kind, scan}
 use Rattle.m4_input.specs.Ascii.{is_name_byte}
-use Rattle.m4_input.specs.Paren.{answer_by, paren_in}
+use Rattle.m4_input.specs.Paren.{paren_in}
+use Rattle.m4_input.proofs.Cases.{name_unless, kind_by, answer_by, comment_found, string_found}
 use Rattle.m4_input.proofs.OpenEnd.{long_not_cut}
 use Rattle.m4_input.specs.Input.{all_read_if_ended, after_line_of, after_line}
 

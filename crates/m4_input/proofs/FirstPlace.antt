@@ -4,7 +4,7 @@ use Rattle.std.proofs.Common.{Option, Some, None, refl, sym, ap, ◌∙◌, arit
 use Rattle.std.specs.Prelude.{◌==◌}
 use Rattle.std.proofs.lemmas.Bool.{and_parts, and_from, eqb-true, eq-eqb}
 use Rattle.memchr.specs.Find.{OccursAt, FindsNeedle}
-use Rattle.m4_input.specs.Pending.{one_more}
+use Rattle.m4_input.specs.Pending.{one_longer}
 use Rattle.m4_input.specs.Token.{begins, before}
 
 -- a place in a text is one further with a byte in front
@@ -46,7 +46,7 @@ earlier p x b k occurs = record { fits = omega (arith, occurs.fits); reads = λ 
 
 -- the first place, by whether the text begins with the delimiter, and by the first place in the rest
 abbrev first_by : Option ℕ → Bool → Option ℕ
-first_by rest t = elim t [ true ↦ Some 0 | false ↦ one_more rest ]
+first_by rest t = elim t [ true ↦ Some 0 | false ↦ one_longer rest ]
 
 -- a delimiter that occurs nowhere has no first place
 nowhere : (p x : List ℕ) → ((k : ℕ) → ¬ OccursAt x p k) → before p x ≡ None
@@ -55,7 +55,7 @@ nowhere p (b ∷ x) none = by (begins p (b ∷ x)) refl (nowhere p x (λ k occur
   where
     by : (t : Bool) → begins p (b ∷ x) ≡ t → before p x ≡ None → first_by (before p x) t ≡ None
     by true is rest = absurd (none 0 (begins_occurs p (b ∷ x) is))
-    by false is rest = ap one_more rest
+    by false is rest = ap one_longer rest
 
 -- a delimiter is first where it occurs and occurs nowhere before, if the text has a byte
 first : (p x : List ℕ) (k : ℕ) → 0 < length x → OccursAt x p k → ((j : ℕ) → j < k → ¬ OccursAt x p j) → before p x ≡ Some k
@@ -70,7 +70,7 @@ first (d ∷ p) (b ∷ (c ∷ x)) (suc k) some occurs none =
   where
     by : (t : Bool) → begins (d ∷ p) (b ∷ (c ∷ x)) ≡ t → before (d ∷ p) (c ∷ x) ≡ Some k → first_by (before (d ∷ p) (c ∷ x)) t ≡ Some (suc k)
     by true is rest = absurd (none 0 (omega arith) (begins_occurs (d ∷ p) (b ∷ (c ∷ x)) is))
-    by false is rest = ap one_more rest
+    by false is rest = ap one_longer rest
 
 -- what a search of a text with a byte finds
 pub found_before : (x p : List ℕ) (r : Option ℕ) → 0 < length x → FindsNeedle x p 0 r → r ≡ before p x

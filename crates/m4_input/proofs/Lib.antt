@@ -1,3 +1,4 @@
+pub mod Cases
 pub mod Consumed
 pub mod OpenEnd
 pub mod Scans

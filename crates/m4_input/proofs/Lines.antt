@@ -6,7 +6,7 @@ use Rattle.std.proofs.Math.ListN.{drop_of_length-le}
 use Rattle.std.specs.Prelude.{◌==◌, not}
 use Rattle.std.proofs.lemmas.Bool.Decides.{nat_tests}
 use Rattle.m4_input.specs.Ascii.{newline}
-use Rattle.m4_input.specs.Pending.{Pending, text_of, counted, newlines_in, consumed, one_more, line_length}
+use Rattle.m4_input.specs.Pending.{Pending, text_of, counted, newlines_in, consumed, one_longer, line_length}
 use Rattle.m4_input.specs.Input.{Held, longer, all_read, all_read_if_ended, after_line_of, after_line}
 use Rattle.m4_input.specs.Blocks.{LineGives}
 use Rattle.m4_input.specs.declared.fault.InputFault.{InputFault}
@@ -18,39 +18,39 @@ use Rattle.m4_input.specs.Token.{begins, before}
 
 abbrev line_on : Bool → Option ℕ → Option ℕ
 line_on true o = Some 1
-line_on false o = one_more o
+line_on false o = one_longer o
 
 abbrev before_on : Bool → Option ℕ → Option ℕ
 before_on true o = Some 0
-before_on false o = one_more o
+before_on false o = one_longer o
 
 line_is : (b : ℕ) (x : List ℕ) → line_length (b ∷ x) ≡ line_on (b == newline) (line_length x)
-line_is b x = elim (b == newline) as (λ v. (elim v [ true ↦ Some 1 | false ↦ one_more (line_length x) ])
+line_is b x = elim (b == newline) as (λ v. (elim v [ true ↦ Some 1 | false ↦ one_longer (line_length x) ])
     ≡ line_on v (line_length x)) [ true ↦ refl | false ↦ refl ]
 
 before_is : (e : List ℕ) (b : ℕ) (x : List ℕ) → before e (b ∷ x) ≡ before_on (begins e (b ∷ x)) (before e x)
 before_is e b x = elim (begins e (b ∷ x)) as
-    (λ v. (elim v [ true ↦ Some 0 | false ↦ one_more (before e x) ]) ≡ before_on v (before e x)) [ true ↦ refl | false ↦ refl ]
+    (λ v. (elim v [ true ↦ Some 0 | false ↦ one_longer (before e x) ]) ≡ before_on v (before e x)) [ true ↦ refl | false ↦ refl ]
 
-both_on : (v : Bool) (o o' : Option ℕ) → o ≡ one_more o' → line_on v o ≡ one_more (before_on v o')
+both_on : (v : Bool) (o o' : Option ℕ) → o ≡ one_longer o' → line_on v o ≡ one_longer (before_on v o')
 both_on true o o' e = refl
-both_on false o o' e = ap one_more e
+both_on false o o' e = ap one_longer e
 
 same_test : (b : ℕ) (x : List ℕ) → (b == newline) ≡ begins (newline ∷ []) (b ∷ x)
 same_test b x = grind (arith, nat_tests)
 
-pub line_found : (x : List ℕ) → line_length x ≡ one_more (before (newline ∷ []) x)
+pub line_found : (x : List ℕ) → line_length x ≡ one_longer (before (newline ∷ []) x)
 line_found [] = refl
 line_found (b ∷ x) =
     line_is b x ∙ both_on (b == newline) (line_length x) (before (newline ∷ []) x) (line_found x)
-    ∙ ap (λ v. one_more (before_on v (before (newline ∷ []) x))) (same_test b x)
-    ∙ ap one_more (sym (before_is (newline ∷ []) b x))
+    ∙ ap (λ v. one_longer (before_on v (before (newline ∷ []) x))) (same_test b x)
+    ∙ ap one_longer (sym (before_is (newline ∷ []) b x))
 
 pub line_some : (x : List ℕ) (n : ℕ) → Some n ≡ before (newline ∷ []) x → Some (n + 1) ≡ line_length x
-line_some x n e = ap Some (add-one n) ∙ ap one_more e ∙ sym (line_found x)
+line_some x n e = ap Some (add-one n) ∙ ap one_longer e ∙ sym (line_found x)
 
 pub line_none : (x : List ℕ) → None ≡ before (newline ∷ []) x → None ≡ line_length x
-line_none x e = ap one_more e ∙ sym (line_found x)
+line_none x e = ap one_longer e ∙ sym (line_found x)
 
 -- the rest of a line is dropped as far as it is in hand
 pub line_dropped : (old new : Held) (n : ℕ) → line_length (text_of old.pending) ≡ Some n
@@ -127,7 +127,7 @@ module _ (y : List ℕ) (b : Bool) (p : Pending) where
   line_by None false e = ap (λ (w : Bool). all_read_if_ended w (longer y b p)) e ∙ ap Some rest_dropped
       ∙ sym (ap (λ (w : Bool). all_read_if_ended w (longer y b (all_read p))) e)
 
-none_more : (o : Option ℕ) → one_more o ≡ None → o ≡ None
+none_more : (o : Option ℕ) → one_longer o ≡ None → o ≡ None
 none_more None e = refl
 none_more (Some n) e = cc
 
@@ -135,7 +135,7 @@ further_zero : (o : Option ℕ) → o ≡ further 0 o
 further_zero None = refl
 further_zero (Some n) = ap Some (omega arith)
 
-further_one : (n : ℕ) (o : Option ℕ) → one_more (further n o) ≡ further (suc n) o
+further_one : (n : ℕ) (o : Option ℕ) → one_longer (further n o) ≡ further (suc n) o
 further_one n None = refl
 further_one n (Some m) = ap Some (omega arith)
 
@@ -143,7 +143,7 @@ goes_by : (v : Bool) (x y : List ℕ) → line_on v (line_length x) ≡ None
     → (line_length x ≡ None → line_length (x ++ y) ≡ further (length x) (line_length y))
     → line_on v (line_length (x ++ y)) ≡ further (suc (length x)) (line_length y)
 goes_by true x y f h = cc
-goes_by false x y f h = ap one_more (h (none_more (line_length x) f)) ∙ further_one (length x) (line_length y)
+goes_by false x y f h = ap one_longer (h (none_more (line_length x) f)) ∙ further_one (length x) (line_length y)
 
 -- a line goes on after bytes without a newline
 line_goes_on : (x y : List ℕ) → line_length x ≡ None → line_length (x ++ y) ≡ further (length x) (line_length y)
@@ -167,7 +167,7 @@ line_in_front (b ∷ x) y n e = line_is b (x ++ y) ∙ by (b == newline) (λ m. 
     by : (v : Bool) → ((m : ℕ) → line_length x ≡ Some m → line_length (x ++ y) ≡ Some m)
         → line_on v (line_length x) ≡ Some n → line_on v (line_length (x ++ y)) ≡ Some n
     by true h f = f
-    by false h f = let k = one_more_is (line_length x) n f in ap one_more (h k.0 k.1) ∙ sym (ap Some k.2)
+    by false h f = let k = one_more_is (line_length x) n f in ap one_longer (h k.0 k.1) ∙ sym (ap Some k.2)
 
 -- a line is dropped front by front: the rest of it is the same from what is left
 pub record IsLeft (old h : Held) : Type 0 where

@@ -6,7 +6,8 @@ use Rattle.m4_state.specs.declared.delimiters.Delimiters.{Delimiters}
 use Rattle.m4_input.specs.declared.front.Kind.{Kind}
 use Rattle.m4_input.specs.declared.front.Kind.TheVariants.{NameHere}
 use Rattle.m4_input.specs.Ascii.{is_letter, is_digit, is_name_byte}
-use Rattle.m4_input.specs.Token.{run_length, kind_by, kind_of}
+use Rattle.m4_input.specs.Token.{run_length, kind_of}
+use Rattle.m4_input.proofs.Cases.{kind_by}
 
 letter_of : (v w l x y : Bool) → kind_by v w l x y ≡ NameHere → l ≡ true
 letter_of true w l x y e = cc

@@ -17,11 +17,12 @@ use Rattle.m4_input.specs.declared.front.Kind.{Kind}
 use Rattle.m4_input.specs.declared.front.Kind.TheVariants.{CommentHere, NameHere, StringHere, ByteHere, Undecided}
 use Rattle.m4_input.specs.declared.front.Answer.TheVariants.{Unknown}
 use Rattle.m4_input.specs.Ascii.{is_letter, is_name_byte}
-use Rattle.m4_input.specs.Pending.{one_more}
-use Rattle.m4_input.specs.Token.{begins, is_cut, is_enabled, starts_with, may_start, run_length, before, mark_by}
-use Rattle.m4_input.specs.Token.{mark_at, level, comment_found, name_unless, name_at, string_found, string_at}
-use Rattle.m4_input.specs.Token.{kind_by, kind_of, scan_kind, scan}
-use Rattle.m4_input.specs.Paren.{answer_by, paren_in}
+use Rattle.m4_input.specs.Pending.{one_longer}
+use Rattle.m4_input.specs.Token.{begins, is_cut, is_enabled, starts_with, may_start, run_length, before}
+use Rattle.m4_input.specs.Token.{mark_at, level, name_at, string_at}
+use Rattle.m4_input.specs.Token.{kind_of, scan_kind, scan}
+use Rattle.m4_input.specs.Paren.{paren_in}
+use Rattle.m4_input.proofs.Cases.{mark_by, name_unless, kind_by, answer_by, comment_found, string_found}
 
 and_true : (a b : Bool) → (a && b) ≡ true → (a ≡ true) × (b ≡ true)
 and_true true b e = (refl, e)
@@ -109,7 +110,7 @@ run_stable f (b ∷ x) z h =
     run_is f b (x ++ z) ∙ run_on_stable (f b) (run_length f (x ++ z)) (run_length f x) (length x)
     (λ e. h (run_is f b x ∙ e)) (run_stable f x z) ∙ sym (run_is f b x)
 
-pub one_more_is : (o : Option ℕ) (n : ℕ) → one_more o ≡ Some n → (m : ℕ) × (o ≡ Some m) × (n ≡ suc m)
+pub one_more_is : (o : Option ℕ) (n : ℕ) → one_longer o ≡ Some n → (m : ℕ) × (o ≡ Some m) × (n ≡ suc m)
 one_more_is None n e = cc
 one_more_is (Some m) n e = (m, refl, cc)
 
@@ -117,7 +118,7 @@ pub before_fits : (e x : List ℕ) (n : ℕ) → before e x ≡ Some n → n + l
 before_fits e [] n h = cc
 before_fits e (b ∷ x) n h =
     (elim (begins e (b ∷ x)) as (λ v. begins e (b ∷ x) ≡ v
-    → (elim v [ true ↦ Some 0 | false ↦ one_more (before e x) ]) ≡ Some n → n + length e ≤ length (b ∷ x)) [
+    → (elim v [ true ↦ Some 0 | false ↦ one_longer (before e x) ]) ≡ Some n → n + length e ≤ length (b ∷ x)) [
       | true ↦ λ g i. let l : length e ≤ length (b ∷ x) = begins_long e (b ∷ x) g in let m : 0 ≡ n = cc in omega arith
       | false ↦ λ g i. let k = one_more_is _ n i in let l : k.0 + length e ≤ length x = before_fits e x k.0 k.1 in let m : n ≡ suc k.0 = k.2 in omega arith
     ]) refl h
@@ -126,13 +127,13 @@ pub before_stable : (e x z : List ℕ) (n : ℕ) → before e x ≡ Some n → b
 before_stable e [] z n h = cc
 before_stable e (b ∷ x) z n h =
     (elim (begins e (b ∷ x)) as (λ v. begins e (b ∷ x) ≡ v
-    → (elim v [ true ↦ Some 0 | false ↦ one_more (before e x) ]) ≡ Some n → before e (b ∷ (x ++ z)) ≡ Some n) [
-      | true ↦ λ g i. ap (λ v. elim v [ true ↦ Some 0 | false ↦ one_more (before e (x ++ z)) ]) (begins_more e (b ∷ x) z g) ∙ i
+    → (elim v [ true ↦ Some 0 | false ↦ one_longer (before e x) ]) ≡ Some n → before e (b ∷ (x ++ z)) ≡ Some n) [
+      | true ↦ λ g i. ap (λ v. elim v [ true ↦ Some 0 | false ↦ one_longer (before e (x ++ z)) ]) (begins_more e (b ∷ x) z g) ∙ i
       | false ↦ λ g i.
           let k = one_more_is _ n i in
           let l : k.0 + length e ≤ length x = before_fits e x k.0 k.1 in
-          ap (λ v. elim v [ true ↦ Some 0 | false ↦ one_more (before e (x ++ z)) ]) (begins_none e (b ∷ x) z g (long_not_cut (b ∷ x) e (omega arith)))
-          ∙ ap one_more (before_stable e x z k.0 k.1) ∙ sym (ap Some k.2)
+          ap (λ v. elim v [ true ↦ Some 0 | false ↦ one_longer (before e (x ++ z)) ]) (begins_none e (b ∷ x) z g (long_not_cut (b ∷ x) e (omega arith)))
+          ∙ ap one_longer (before_stable e x z k.0 k.1) ∙ sym (ap Some k.2)
     ]) refl h
 
 or_false : (a b : Bool) → (a || b) ≡ false → (a ≡ false) × (b ≡ false)
@@ -162,9 +163,9 @@ mark_stays q p y z = go (begins q.end y) (is_cut y q.end || is_cut y q.begin) (b
         begin_stays false g i = begins_none q.begin y z g i
 
 on_mark : Delimiters → Bool → ℕ → List ℕ → Mark → Option ℕ
-on_mark q p k y EndQuote = elim k [ zero ↦ Some 0 | suc j ↦ one_more (level q p j (length q.end - 1) y) ]
-on_mark q p k y BeginQuote = one_more (level q p (suc k) (length q.begin - 1) y)
-on_mark q p k y PlainByte = one_more (level q p k zero y)
+on_mark q p k y EndQuote = elim k [ zero ↦ Some 0 | suc j ↦ one_longer (level q p j (length q.end - 1) y) ]
+on_mark q p k y BeginQuote = one_longer (level q p (suc k) (length q.begin - 1) y)
+on_mark q p k y PlainByte = one_longer (level q p k zero y)
 on_mark q p k y CutQuote = None
 
 inside_is : (q : Delimiters) (p : Bool) (k b : ℕ) (y : List ℕ) → level q p k 0 (b ∷ y) ≡ on_mark q p k y (mark_at q p (b ∷ y))
@@ -205,9 +206,9 @@ on_mark_stable : (q : Delimiters) (p : Bool) (k : ℕ) (y z : List ℕ)
     → on_mark q true k y m ≡ Some n → on_mark q p k (y ++ z) m ≡ Some n
 unfolding on_mark
 on_mark_stable q p zero y z ih n EndQuote e = e
-on_mark_stable q p (suc k) y z ih n EndQuote e = let h = one_more_is _ n e in ap one_more (ih _ _ h.0 h.1) ∙ sym (ap Some h.2)
-on_mark_stable q p k y z ih n BeginQuote e = let h = one_more_is _ n e in ap one_more (ih _ _ h.0 h.1) ∙ sym (ap Some h.2)
-on_mark_stable q p k y z ih n PlainByte e = let h = one_more_is _ n e in ap one_more (ih _ _ h.0 h.1) ∙ sym (ap Some h.2)
+on_mark_stable q p (suc k) y z ih n EndQuote e = let h = one_more_is _ n e in ap one_longer (ih _ _ h.0 h.1) ∙ sym (ap Some h.2)
+on_mark_stable q p k y z ih n BeginQuote e = let h = one_more_is _ n e in ap one_longer (ih _ _ h.0 h.1) ∙ sym (ap Some h.2)
+on_mark_stable q p k y z ih n PlainByte e = let h = one_more_is _ n e in ap one_longer (ih _ _ h.0 h.1) ∙ sym (ap Some h.2)
 on_mark_stable q p k y z ih n CutQuote e = cc
 
 not_cut_mark : (q : Delimiters) (k : ℕ) (y : List ℕ) (n : ℕ) (m : Mark) → m ≡ CutQuote → on_mark q true k y m ≡ Some n → ⊥
@@ -219,7 +220,7 @@ not_cut_mark q k y n CutQuote e f = cc
 
 pub inside_stable : (q : Delimiters) (p : Bool) (k skip : ℕ) (x z : List ℕ) (n : ℕ) → level q true k skip x ≡ Some n → level q p k skip (x ++ z) ≡ Some n
 inside_stable q p k skip [] z n e = cc
-inside_stable q p k (suc skip) (b ∷ y) z n e = let h = one_more_is _ n e in ap one_more (inside_stable q p k skip y z h.0 h.1) ∙ sym (ap Some h.2)
+inside_stable q p k (suc skip) (b ∷ y) z n e = let h = one_more_is _ n e in ap one_longer (inside_stable q p k skip y z h.0 h.1) ∙ sym (ap Some h.2)
 inside_stable q p k zero (b ∷ y) z n e =
     let f : on_mark q true k y (mark_at q true (b ∷ y)) ≡ Some n = sym (inside_is q true k b y) ∙ e in
     ⊎_elim (λ c. absurd (not_cut_mark q k y n _ c f))

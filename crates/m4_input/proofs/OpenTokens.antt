@@ -16,9 +16,10 @@ use Rattle.m4_input.specs.declared.open_token.OpenToken.TheVariants as opens
 use Rattle.m4_input.specs.declared.strings.StringSoFar.{StringSoFar}
 use Rattle.m4_input.specs.declared.strings.StringSoFar.TheVariants as string_so_far
 use Rattle.m4_input.specs.Ascii.{is_name_byte}
-use Rattle.m4_input.specs.Pending.{one_more}
-use Rattle.m4_input.specs.Token.{begins, run_length, before, mark_at, level, comment_found, comment_at, name_unless}
-use Rattle.m4_input.specs.Token.{name_at, string_found, string_at, scan_kind, scan}
+use Rattle.m4_input.specs.Pending.{one_longer}
+use Rattle.m4_input.specs.Token.{begins, run_length, before, mark_at, level, comment_at}
+use Rattle.m4_input.specs.Token.{name_at, string_at, scan_kind, scan}
+use Rattle.m4_input.proofs.Cases.{name_unless, comment_found, string_found}
 use Rattle.m4_input.specs.OpenToken.{further, kind_in, MayCome, HasPassed, IsStringSoFar, NameIsOpen, CommentIsOpen}
 use Rattle.m4_input.specs.OpenToken.{StringIsOpen, IsOpenAt, StaysOpen, CommentGoesOn}
 use Rattle.m4_input.proofs.Scans.{on_mark, level_at, passed_mark, further_further, one_further, before_step}
@@ -43,7 +44,7 @@ come false = (refl, refl)
 passed_on : (q : Delimiters) (o : Bool) (n : ℕ) (x : List ℕ) (m k b i d : ℕ) → HasPassed q o n x m k
     → drop k x ≡ b ∷ drop (k + 1) x → 0 < d → d ≤ length (drop k x) → i ≤ suc m
     → ((p : Bool) (z : List ℕ) → MayCome o p z → level q p m 0 (b ∷ (drop (k + 1) x ++ z))
-    ≡ one_more (level q p i (d - 1) (drop (k + 1) x ++ z))) → HasPassed q o n x i (k + d)
+    ≡ one_longer (level q p i (d - 1) (drop (k + 1) x ++ z))) → HasPassed q o n x i (k + d)
 passed_on q o n x m k b i d s e pos fits low is =
     let len : length (drop k x) ≡ length x - k = length-drop k x in
     let w : k ≤ length x = s.within in
@@ -92,7 +93,7 @@ passed_down q o n x (suc m) k b d s e pos as_long fits h ne =
     let one : suc m - 1 ≡ m = omega arith in
     subst (λ i. HasPassed q o n x i (k + d)) (sym one)
     (passed_on q o n x (suc m) k b m d s e pos fits (omega arith)
-    (λ p z c. level_at q p (suc m) b (drop (k + 1) x ++ z) EndQuote (h p z c) ∙ ap (λ (i : ℕ). one_more (level q p m i (drop (k + 1) x ++ z))) as_long))
+    (λ p z c. level_at q p (suc m) b (drop (k + 1) x ++ z) EndQuote (h p z c) ∙ ap (λ (i : ℕ). one_longer (level q p m i (drop (k + 1) x ++ z))) as_long))
 
 -- a mark that is not cut stays, whatever may come
 marked : (q : Delimiters) (o : Bool) (b : ℕ) (y : List ℕ) (v : Mark) → mark_at q o (b ∷ y) ≡ v → (v ≡ CutQuote → ⊥) → Marked q o b y v
@@ -194,12 +195,12 @@ short_so_far q b e o n x r h g s =
 not_begun : (e : List ℕ) (b : ℕ) (w : List ℕ) → before e (b ∷ w) ≡ None → (begins e (b ∷ w) ≡ false) × (before e w ≡ None)
 not_begun e b w h = go (begins e (b ∷ w)) refl h
   where
-    none_more : (o : Option ℕ) → one_more o ≡ None → o ≡ None
+    none_more : (o : Option ℕ) → one_longer o ≡ None → o ≡ None
     none_more None e = refl
     none_more (Some n) e = cc
 
     go : (v : Bool) → begins e (b ∷ w) ≡ v
-        → ◌≡◌ {A = Option ℕ} (elim v [ true ↦ Some 0 | false ↦ one_more (before e w) ]) None
+        → ◌≡◌ {A = Option ℕ} (elim v [ true ↦ Some 0 | false ↦ one_longer (before e w) ]) None
         → (begins e (b ∷ w) ≡ false) × (before e w ≡ None)
     go true f g = cc
     go false f g = (f, none_more (before e w) g)
@@ -217,7 +218,7 @@ before_on e (b ∷ w) (suc j) h f z =
     let long : length e ≤ length (b ∷ w) = omega arith in
     let rest : j + (length e - 1) ≤ length w = omega arith in
     before_step e (w ++ z) b (begins_none e (b ∷ w) z k.0 (long_not_cut (b ∷ w) e long))
-    ∙ ap one_more (before_on e w j k.1 (inr rest) z)
+    ∙ ap one_longer (before_on e w j k.1 (inr rest) z)
     ∙ one_further j (suc j) (before e (drop j w ++ z)) refl) f
 
 pub comment_on : (e x : List ℕ) (n : ℕ) → None ≡ before e x → n ≡ length x - (length e - 1) → CommentGoesOn e n x

@@ -10,7 +10,8 @@ use Rattle.m4_state.specs.declared.delimiters.Delimiters.{Delimiters}
 use Rattle.m4_input.specs.declared.front.Mark.TheVariants.{EndQuote, BeginQuote, PlainByte}
 use Rattle.m4_input.specs.declared.strings.StringSoFar.TheVariants as string_so_far
 use Rattle.m4_input.specs.OpenToken.{HasPassed, ArePlain, IsStringSoFar}
-use Rattle.m4_input.specs.Token.{begins, is_cut, mark_at, mark_by}
+use Rattle.m4_input.specs.Token.{begins, is_cut, mark_at}
+use Rattle.m4_input.proofs.Cases.{mark_by}
 use Rattle.m4_input.proofs.OpenTokens.{reached_down, reached_up, reached_past, reached_end, all_reached, passed_so}
 use Rattle.memchr.specs.Find.{Passes, is_byte2, Nowhere, IsFirstByte}
 

@@ -11,8 +11,9 @@ use Rattle.m4_input.specs.declared.front.Scan.TheVariants.{Found, Broken, NeedsM
 use Rattle.m4_input.specs.declared.token.Token.{Token}
 use Rattle.m4_input.specs.declared.token.Token.TheVariants.{Name, Str, Comment, Byte, Definition, End}
 use Rattle.m4_input.specs.Ascii.{is_name_byte}
-use Rattle.m4_input.specs.Token.{run_length, before, level, unended, comment_found, name_unless, string_found}
+use Rattle.m4_input.specs.Token.{run_length, before, level, unended}
 use Rattle.m4_input.specs.Token.{kind_of, scan_kind, scan}
+use Rattle.m4_input.proofs.Cases.{name_unless, comment_found, string_found}
 
 -- a name is the longest run of its bytes, and a byte is the first of the text
 abbrev IsAhead : Token → ℕ → List ℕ → Type 0

@@ -7,11 +7,12 @@ use Rattle.std.specs.Prelude.{◌==◌, nat_lt}
 use Rattle.std.specs.List.{starts_with}
 use Rattle.m4_input.specs.declared.front.Mark.{Mark}
 use Rattle.m4_input.specs.declared.front.Mark.TheVariants.{EndQuote, BeginQuote, PlainByte, CutQuote}
-use Rattle.m4_input.specs.Pending.{one_more}
+use Rattle.m4_input.specs.Pending.{one_longer}
 use Rattle.m4_input.specs.OpenToken.{further}
-use Rattle.m4_input.specs.Token.{begins, is_cut, before, level, mark_at, mark_by}
+use Rattle.m4_input.specs.Token.{begins, is_cut, before, level, mark_at}
+use Rattle.m4_input.proofs.Cases.{mark_by}
 
-pub before_step : (e x : List ℕ) (b : ℕ) → begins e (b ∷ x) ≡ false → before e (b ∷ x) ≡ one_more (before e x)
+pub before_step : (e x : List ℕ) (b : ℕ) → begins e (b ∷ x) ≡ false → before e (b ∷ x) ≡ one_longer (before e x)
 before_step e x b h = rw (h, before) refl
 
 -- std's word for a delimiter at the start
@@ -37,9 +38,9 @@ level_skip q p n zero y h = go (level q p n 0 y)
     go None = refl
     go (Some m) = ap Some (omega arith)
 level_skip q p n (suc skip) [] h = absurd (omega arith)
-level_skip q p n (suc skip) (b ∷ y) h = ap one_more (level_skip q p n skip y (omega arith)) ∙ go (level q p n 0 (drop skip y))
+level_skip q p n (suc skip) (b ∷ y) h = ap one_longer (level_skip q p n skip y (omega arith)) ∙ go (level q p n 0 (drop skip y))
   where
-    go : (o : Option ℕ) → one_more (further skip o) ≡ further (suc skip) o
+    go : (o : Option ℕ) → one_longer (further skip o) ≡ further (suc skip) o
     go None = refl
     go (Some m) = ap Some (omega arith)
 
@@ -53,15 +54,15 @@ begins_length (b ∷ e) [] h = cc
 begins_length (b ∷ e) (c ∷ y) h = let l : length e ≤ length y = begins_length e y (second (b == c) h) in omega arith
 
 abbrev pub on_mark : Delimiters → Bool → ℕ → List ℕ → Mark → Option ℕ
-on_mark q p n y EndQuote = elim n [ zero ↦ Some 0 | suc j ↦ one_more (level q p j (length q.end - 1) y) ]
-on_mark q p n y BeginQuote = one_more (level q p (suc n) (length q.begin - 1) y)
-on_mark q p n y PlainByte = one_more (level q p n zero y)
+on_mark q p n y EndQuote = elim n [ zero ↦ Some 0 | suc j ↦ one_longer (level q p j (length q.end - 1) y) ]
+on_mark q p n y BeginQuote = one_longer (level q p (suc n) (length q.begin - 1) y)
+on_mark q p n y PlainByte = one_longer (level q p n zero y)
 on_mark q p n y CutQuote = None
 
 pub level_at : (q : Delimiters) (p : Bool) (n b : ℕ) (y : List ℕ) (m : Mark) → mark_at q p (b ∷ y) ≡ m → level q p n 0 (b ∷ y) ≡ on_mark q p n y m
 level_at q p n b y m e = ap (on_mark q p n y) e
 
-pub one_further : (n m : ℕ) (o : Option ℕ) → m ≡ suc n → one_more (further n o) ≡ further m o
+pub one_further : (n m : ℕ) (o : Option ℕ) → m ≡ suc n → one_longer (further n o) ≡ further m o
 one_further n m None e = refl
 one_further n m (Some i) e = ap Some (omega arith)
 
@@ -71,10 +72,10 @@ further_further n m k (Some i) e = ap Some (omega arith)
 
 -- a delimiter of length d is passed
 pub passed_mark : (q : Delimiters) (p : Bool) (n d : ℕ) (b : ℕ) (y : List ℕ) → 0 < d → d ≤ length (b ∷ y)
-    → one_more (level q p n (d - 1) y) ≡ further d (level q p n 0 (drop d (b ∷ y)))
+    → one_longer (level q p n (d - 1) y) ≡ further d (level q p n 0 (drop d (b ∷ y)))
 passed_mark q p n zero b y h g = absurd (omega arith)
-passed_mark q p n (suc d) b y h g = let e : suc d - 1 ≡ d = omega arith in ap (λ i. one_more (level q p n i y)) e
-    ∙ (ap one_more (level_skip q p n d y (omega arith)) ∙ one_further d (suc d) (level q p n 0 (drop d y)) refl)
+passed_mark q p n (suc d) b y h g = let e : suc d - 1 ≡ d = omega arith in ap (λ i. one_longer (level q p n i y)) e
+    ∙ (ap one_longer (level_skip q p n d y (omega arith)) ∙ one_further d (suc d) (level q p n 0 (drop d y)) refl)
 
 pub mark_down : (u v w : Bool) → EndQuote ≡ mark_by u v w → u ≡ true
 mark_down true v w e = refl

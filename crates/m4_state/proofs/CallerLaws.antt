@@ -1,5 +1,5 @@
 -- Laws that crates above cite: a builtin is found by its name; a text is put piece by piece into a
--- writer, and taken block by block from a reader.
+-- writer, and taken block by block from a reader; two texts that are diverted, one after the other, are one.
 use Rattle.std.proofs.Common.{◌≡◌, ℕ, ◌+◌, ◌<◌, List, [], ◌++◌, length, get_or, take, drop, drop-cons, add-one, Option}
 use Rattle.std.proofs.Common.{Some, None, Result, Ok, Err, refl, sym, ap, ◌∙◌, append_assoc}
 use Rattle.std.specs.List.{flat_map}
@@ -13,6 +13,12 @@ use Rattle.m4_state.specs.declared.builtin.Builtin.TheVariants.{Index, Substr, T
 use Rattle.m4_state.specs.declared.builtin.Builtin.TheVariants.{M4wrap, M4exit, File, Line}
 use Rattle.m4_state.specs.Builtin.{builtin_named, name_of}
 use Rattle.m4_state.specs.Device.{Script, after_bytes, with_bytes, HasPut, HasBegun, Puts}
+use Rattle.std.proofs.Common.{◌∷◌, ℤ, Bool, true, false, cond, unwrap_or, Ordering, Less, Equal, Greater}
+use Rattle.std.specs.Cmp.{int_cmp_total, tied_itself}
+use Rattle.std.specs.Ordering.{int_cmp}
+use Rattle.std.specs.FinMap.{put}
+use Rattle.std.specs.FinMap.Entries.{by_order, find-put}
+use Rattle.m4_state.specs.State.{State, NumberedText, appended, with_text, diverted_text, holds_text}
 
 -- each builtin is found by its own name
 pub builtin_named-name_of : (b : Builtin) → builtin_named (name_of b) ≡ Some b
@@ -120,3 +126,43 @@ flat_map-drop f xs i d lt = ap (flat_map f) (drop-cons xs i d lt) ∙ ap (λ (j 
 pub Puts-refused : {A E : Type 0} (r : Result A E) (old new : Option (List ℕ)) (text : List ℕ) → IsErr r → HasBegun old new text → Puts r old new text
 Puts-refused (Ok x) old new text is p = absurd cc
 Puts-refused (Err x) old new text is p = p
+
+-- the last text of a number counts
+pub put-put : (n : ℤ) (v w : List ℕ) (ds : List NumberedText)
+    → put int_cmp n w (put int_cmp n v ds) ≡ put int_cmp n w ds
+put-put n v w [] = rw (tied_itself int_cmp_total n) refl
+put-put n v w (d ∷ ds) = by (int_cmp n d.0) refl (put-put n v w ds)
+  where
+    by : (r : Ordering) → int_cmp n d.0 ≡ r → put int_cmp n w (put int_cmp n v ds) ≡ put int_cmp n w ds
+        → put int_cmp n w (by_order r ((n, v) ∷ d ∷ ds) ((d.0, v) ∷ ds) (d ∷ put int_cmp n v ds))
+        ≡ by_order r ((n, w) ∷ d ∷ ds) ((d.0, w) ∷ ds) (d ∷ put int_cmp n w ds)
+    by Less e rest = rw (tied_itself int_cmp_total n) refl
+    by Equal e rest = rw e refl
+    by Greater e rest = rw e (ap (λ (xs : List NumberedText). d ∷ xs) rest)
+
+-- the text that was put is there
+diverted_text-put : (n : ℤ) (v : List ℕ) (ds : List NumberedText) → diverted_text (put int_cmp n v ds) n ≡ v
+diverted_text-put n v ds =
+    ap (λ (o : Option (List ℕ)). unwrap_or o []) (find-put int_cmp int_cmp_total n n v ds)
+    ∙ rw (tied_itself int_cmp_total n) refl
+
+-- two texts in order, joined, are one
+with_text-twice : (n : ℤ) (a b : List ℕ) (ds : List NumberedText)
+    → with_text (with_text ds n a) n b ≡ with_text ds n (a ++ b)
+with_text-twice n [] b ds = refl
+with_text-twice n (x ∷ a) [] ds = ap (with_text ds n) (sym (append-nil (x ∷ a)))
+with_text-twice n (x ∷ a) (y ∷ b) ds =
+    rw (diverted_text-put n (diverted_text ds n ++ x ∷ a) ds, put-put n (diverted_text ds n ++ x ∷ a) ((diverted_text ds n ++ x ∷ a) ++ y ∷ b) ds)
+    (ap (λ (text : List ℕ). put int_cmp n text ds) (append_assoc (diverted_text ds n) (x ∷ a) (y ∷ b)))
+
+pub appended-twice : (s : State) (a b : List ℕ) → appended (appended s a) b ≡ appended s (a ++ b)
+appended-twice s a b = by (holds_text s.current)
+  where
+    by : (h : Bool) → record s {
+      diversions =
+          cond h (with_text (cond h (with_text s.diversions s.current a) s.diversions) s.current b)
+          (cond h (with_text s.diversions s.current a) s.diversions);
+    }
+        ≡ record s { diversions = cond h (with_text s.diversions s.current (a ++ b)) s.diversions }
+    by true = ap (λ (ds : List NumberedText). record s { diversions = ds }) (with_text-twice s.current a b s.diversions)
+    by false = refl

@@ -4,7 +4,8 @@ use Rattle.std.specs.Prelude.{Option, Some, None, Result, Ok, Err, OnOk, OnErr, 
 use Rattle.std.specs.FinMap.{find, put}
 use Rattle.std.specs.Str.{bytes_eq}
 use Rattle.m4_state.specs.declared.definition.Def.{Def}
-use Rattle.m4_state.specs.Table.{Pairs, byte_order, stack_at, without, with_stack, without_top, but_last}
+use Rattle.m4_state.specs.Table.{Pairs, byte_order, stack_at, without, without_top, but_last}
+use Rattle.m4_state.proofs.Cases.{with_stack}
 use Rattle.m4_state.specs.Marks.{is_marked, IsMarkedBy, AreMarked}
 use Rattle.std.specs.Cmp.Lexicographic.{nat_list_cmp_total}
 use Rattle.m4_state.proofs.Pairs.{AllByRecursion-put, AllByRecursion-find}

@@ -12,12 +12,13 @@ use Rattle.std.specs.FinMap.{find, put, is_sorted, int_cmp-IsAntisymmetric}
 use Rattle.std.specs.FinMap.Entries.{find-put, is_sorted-put, is_sorted-where_key, same_entries}
 use Rattle.std.specs.declared.alloc.Global.{Global}
 use Rattle.m4_state.specs.DiversionEntries.{texts_of}
-use Rattle.m4_state.specs.State.{Diversion, AreDiversions, AreSizedDiversions, holds_text, text_at, with_text, without_text}
+use Rattle.m4_state.specs.State.{NumberedText, AreDiversions, AreSizedDiversions, holds_text, diverted_text, with_text, without_text}
 use Rattle.m4_state.proofs.TextsByNumber.{insert-texts_of, with_text-some, AreDiversions-put, AreSizedDiversions-put}
 use Rattle.m4_state.proofs.StaysInOrder.{AreDiversions-without}
-use Rattle.m4_state.proofs.Undiverted.{text_at-without, without-put, find-without, find-of_texts, AreSizedDiversions-without}
+use Rattle.m4_state.proofs.Undiverted.{diverted_text-without, without-put, find-without, find-of_texts, AreSizedDiversions-without}
+use Rattle.m4_state.proofs.CallerLaws.{put-put}
 
-sorted_T : (ds : List Diversion) → IsTrue (is_sorted int_cmp ds) → T (is_sorted int_cmp ds)
+sorted_T : (ds : List NumberedText) → IsTrue (is_sorted int_cmp ds) → T (is_sorted int_cmp ds)
 sorted_T ds h = subst T (sym h) tt
 
 true_of : (b : Bool) → T b → IsTrue b
@@ -25,30 +26,11 @@ true_of true h = refl
 true_of false h = absurd h
 
 -- a map stays sorted
-pub sorted_put : (c : ℤ) (x : List ℕ) (ds : List Diversion) → IsTrue (is_sorted int_cmp ds) → IsTrue (is_sorted int_cmp (put int_cmp c x ds))
+pub sorted_put : (c : ℤ) (x : List ℕ) (ds : List NumberedText) → IsTrue (is_sorted int_cmp ds) → IsTrue (is_sorted int_cmp (put int_cmp c x ds))
 sorted_put c x ds h = true_of _ (is_sorted-put int_cmp int_cmp_total c x ds (sorted_T ds h))
 
-pub sorted_without : (n : ℤ) (ds : List Diversion) → IsTrue (is_sorted int_cmp ds) → IsTrue (is_sorted int_cmp (without_text ds n))
+pub sorted_without : (n : ℤ) (ds : List NumberedText) → IsTrue (is_sorted int_cmp ds) → IsTrue (is_sorted int_cmp (without_text ds n))
 sorted_without n ds h = true_of _ (is_sorted-where_key int_cmp (λ q. not (int_eq n q)) ds (sorted_T ds h))
-
--- the later text of one number stays
-put-put : (c : ℤ) (x y : List ℕ) (ds : List Diversion) → IsTrue (is_sorted int_cmp ds) → put int_cmp c x (put int_cmp c y ds) ≡ put int_cmp c x ds
-put-put c x y ds h =
-    same_entries int_cmp int_cmp_total int_cmp-IsAntisymmetric (put int_cmp c x (put int_cmp c y ds)) (put int_cmp c x ds)
-    (is_sorted-put int_cmp int_cmp_total c x (put int_cmp c y ds) (is_sorted-put int_cmp int_cmp_total c y ds (sorted_T ds h)))
-    (is_sorted-put int_cmp int_cmp_total c x ds (sorted_T ds h))
-    found
-  where
-    by : (q : ℤ) (b : Bool) → cond b (Some x) (cond b (Some y) (find int_cmp q ds)) ≡ cond b (Some x) (find int_cmp q ds)
-    by q true = refl
-    by q false = refl
-
-    found : (q : ℤ) → find int_cmp q (put int_cmp c x (put int_cmp c y ds)) ≡ find int_cmp q (put int_cmp c x ds)
-    found q =
-        find-put int_cmp int_cmp_total q c x (put int_cmp c y ds)
-        ∙ ap (λ (o : Option (List ℕ)). cond (is_eq (int_cmp q c)) (Some x) o) (find-put int_cmp int_cmp_total q c y ds)
-        ∙ by q (is_eq (int_cmp q c))
-        ∙ sym (find-put int_cmp int_cmp_total q c x ds)
 
 abbrev Text : Type 0
 Text = Vec ℕ Global
@@ -57,7 +39,7 @@ abbrev Entry : Type 0
 Entry = ℤ × Text
 
 -- a text that is found is the number's
-text_is : (n : ℤ) (ds : List Diversion) (o : Option (List ℕ)) → o ≡ find int_cmp n ds → unwrap_or o [] ≡ text_at ds n
+text_is : (n : ℤ) (ds : List NumberedText) (o : Option (List ℕ)) → o ≡ find int_cmp n ds → unwrap_or o [] ≡ diverted_text ds n
 text_is n ds o found = ap (λ (p : Option (List ℕ)). unwrap_or p []) found
 
 -- the numbers n and c differ, and c gets an empty text
@@ -67,28 +49,28 @@ module _ (n c : ℤ) (es fs : List Entry) (v : Text) (sorted : IsTrue (is_sorted
   placed = ap texts_of written ∙ insert-texts_of es c v ∙ ap (λ (x : List ℕ). put int_cmp c x (texts_of es)) empty
 
   pub placed_sorted : IsTrue (is_sorted int_cmp (texts_of fs))
-  placed_sorted = subst (λ (ds : List Diversion). IsTrue (is_sorted int_cmp ds)) (sym placed) (sorted_put c [] (texts_of es) sorted)
+  placed_sorted = subst (λ (ds : List NumberedText). IsTrue (is_sorted int_cmp ds)) (sym placed) (sorted_put c [] (texts_of es) sorted)
 
   -- the other text is found as before
   found_before : find int_cmp n (texts_of fs) ≡ find int_cmp n (texts_of es)
   found_before =
-      ap (λ (ds : List Diversion). find int_cmp n ds) placed
+      ap (λ (ds : List NumberedText). find int_cmp n ds) placed
       ∙ find-put int_cmp int_cmp_total n c [] (texts_of es)
       ∙ ap (λ (b : Bool). cond b (Some []) (find int_cmp n (texts_of es))) apart
 
   -- so it is found, as it is not empty
-  pub is_found : None ≡ find int_cmp n (texts_of fs) → text_at (texts_of es) n ≢ [] → ⊥
+  pub is_found : None ≡ find int_cmp n (texts_of fs) → diverted_text (texts_of es) n ≢ [] → ⊥
   is_found none some = some (sym (text_is n (texts_of es) None (none ∙ found_before)))
 
   module _ (gs : List Entry) (left : texts_of gs ≡ without_text (texts_of fs) n) where
     others : texts_of gs ≡ put int_cmp c [] (without_text (texts_of es) n)
-    others = left ∙ ap (λ (ds : List Diversion). without_text ds n) placed ∙ without-put n c [] (texts_of es) sorted apart
+    others = left ∙ ap (λ (ds : List NumberedText). without_text ds n) placed ∙ without-put n c [] (texts_of es) sorted apart
 
     -- the place is still there
     pub place_stays : None ≡ lookup (is_at (int_cmp c)) gs → ⊥
     place_stays none =
         let there : find int_cmp c (texts_of gs) ≡ Some [] =
-        ap (λ (ds : List Diversion). find int_cmp c ds) others
+        ap (λ (ds : List NumberedText). find int_cmp c ds) others
         ∙ find-put int_cmp int_cmp_total c c [] (without_text (texts_of es) n)
         ∙ ap (λ (r : Ordering). cond (is_eq r) (Some []) (find int_cmp c (without_text (texts_of es) n))) (tied_itself int_cmp_total c) in
         let missing : find int_cmp c (texts_of gs) ≡ None = find-of_texts c gs ∙ ap (λ (o : Option Text). option_map (λ text. text.items) o) (sym none) in
@@ -97,38 +79,39 @@ module _ (n c : ℤ) (es fs : List Entry) (v : Text) (sorted : IsTrue (is_sorted
 
     module _ (hs : List Entry) (w : Text) (moved : hs ≡ insert_entry int_cmp gs c w) (taken : Some w.items ≡ find int_cmp n (texts_of fs)) where
       -- what was taken is the number's text
-      pub taken_text : w.items ≡ text_at (texts_of es) n
+      pub taken_text : w.items ≡ diverted_text (texts_of es) n
       taken_text = text_is n (texts_of es) (Some w.items) (taken ∙ found_before)
 
-      pub is_moved : texts_of hs ≡ put int_cmp c (text_at (texts_of es) n) (without_text (texts_of es) n)
+      pub is_moved : texts_of hs ≡ put int_cmp c (diverted_text (texts_of es) n) (without_text (texts_of es) n)
       is_moved =
           ap texts_of moved ∙ insert-texts_of gs c w
-          ∙ ap (λ (ds : List Diversion). put int_cmp c w.items ds) others
-          ∙ put-put c w.items [] (without_text (texts_of es) n) (sorted_without n (texts_of es) sorted)
+          ∙ ap (λ (ds : List NumberedText). put int_cmp c w.items ds) others
+          ∙ put-put c [] w.items (without_text (texts_of es) n)
           ∙ ap (λ (x : List ℕ). put int_cmp c x (without_text (texts_of es) n)) taken_text
 
 -- a move keeps diversions in order, whether it was refused or not
-pub valid_after_move : {A E : Type 0} (r : Result A E) (n c : ℤ) (before : List ℕ) (ds new : List Diversion)
-    → IsTrue (holds_text c) → FitsSigned w32 c → text_at ds n ≢ []
-    → OnOk r (new ≡ put int_cmp c (before ++ text_at ds n) (without_text ds n)) → OnErr r (new ≡ ds) → OnOk r (length (before ++ text_at ds n) < 2 ^ 64)
+pub valid_after_move : {A E : Type 0} (r : Result A E) (n c : ℤ) (before : List ℕ) (ds new : List NumberedText)
+    → IsTrue (holds_text c) → FitsSigned w32 c → diverted_text ds n ≢ []
+    → OnOk r (new ≡ put int_cmp c (before ++ diverted_text ds n) (without_text ds n)) → OnErr r (new ≡ ds)
+    → OnOk r (length (before ++ diverted_text ds n) < 2 ^ 64)
     → AreDiversions ds × AreSizedDiversions ds → AreDiversions new × AreSizedDiversions new
 valid_after_move (Ok x) n c before ds new positive fits some ok err sized h = (
-  subst AreDiversions (sym ok) (AreDiversions-put c before (text_at ds n) (without_text ds n) positive fits some (AreDiversions-without n ds h.0)),
-  subst AreSizedDiversions (sym ok) (AreSizedDiversions-put c (before ++ text_at ds n) (without_text ds n) sized (AreSizedDiversions-without n ds h.1)),
+  subst AreDiversions (sym ok) (AreDiversions-put c before (diverted_text ds n) (without_text ds n) positive fits some (AreDiversions-without n ds h.0)),
+  subst AreSizedDiversions (sym ok) (AreSizedDiversions-put c (before ++ diverted_text ds n) (without_text ds n) sized (AreSizedDiversions-without n ds h.1)),
 )
 valid_after_move (Err e) n c before ds new positive fits some ok err sized h = (subst AreDiversions (sym err) h.0, subst AreSizedDiversions (sym err) h.1)
 
 -- a text that leaves its number and is added to another one
-pub moved_text : (n c : ℤ) (ds : List Diversion) → IsTrue (is_sorted int_cmp ds) → int_eq n c ≡ false → text_at ds n ≢ []
-    → without_text (with_text ds c (text_at ds n)) n ≡ put int_cmp c (text_at ds c ++ text_at ds n) (without_text ds n)
+pub moved_text : (n c : ℤ) (ds : List NumberedText) → IsTrue (is_sorted int_cmp ds) → int_eq n c ≡ false → diverted_text ds n ≢ []
+    → without_text (with_text ds c (diverted_text ds n)) n ≡ put int_cmp c (diverted_text ds c ++ diverted_text ds n) (without_text ds n)
 moved_text n c ds sorted apart some =
-    ap (λ (x : List Diversion). without_text x n) (with_text-some c (text_at ds n) ds some)
-    ∙ without-put n c (text_at ds c ++ text_at ds n) ds sorted apart
+    ap (λ (x : List NumberedText). without_text x n) (with_text-some c (diverted_text ds n) ds some)
+    ∙ without-put n c (diverted_text ds c ++ diverted_text ds n) ds sorted apart
 
 -- ---- a text is swapped out, added to another one, and its number leaves
 
 -- a number that gets another text and leaves then has left
-without-put_itself : (n : ℤ) (x : List ℕ) (ds : List Diversion) → IsTrue (is_sorted int_cmp ds) → without_text (put int_cmp n x ds) n ≡ without_text ds n
+without-put_itself : (n : ℤ) (x : List ℕ) (ds : List NumberedText) → IsTrue (is_sorted int_cmp ds) → without_text (put int_cmp n x ds) n ≡ without_text ds n
 without-put_itself n x ds h =
     same_entries int_cmp int_cmp_total int_cmp-IsAntisymmetric (without_text (put int_cmp n x ds) n) (without_text ds n)
     (is_sorted-where_key int_cmp (λ q. not (int_eq n q)) (put int_cmp n x ds) (is_sorted-put int_cmp int_cmp_total n x ds (sorted_T ds h)))
@@ -154,7 +137,7 @@ without-put_itself n x ds h =
         ∙ sym (find-without n q ds)
 
 -- a text that is put where it is changes nothing
-put_itself : (n : ℤ) (x : List ℕ) (ds : List Diversion) → IsTrue (is_sorted int_cmp ds) → find int_cmp n ds ≡ Some x → put int_cmp n x ds ≡ ds
+put_itself : (n : ℤ) (x : List ℕ) (ds : List NumberedText) → IsTrue (is_sorted int_cmp ds) → find int_cmp n ds ≡ Some x → put int_cmp n x ds ≡ ds
 put_itself n x ds h is =
     same_entries int_cmp int_cmp_total int_cmp-IsAntisymmetric (put int_cmp n x ds) ds
     (is_sorted-put int_cmp int_cmp_total n x ds (sorted_T ds h)) (sorted_T ds h) found
@@ -172,66 +155,66 @@ some_found : (n : ℤ) (o : Option (List ℕ)) → unwrap_or o [] ≢ [] → o �
 some_found n None some = absurd (some refl)
 some_found n (Some x) some = refl
 
-module _ (n c : ℤ) (ds : List Diversion) (sorted : IsTrue (is_sorted int_cmp ds)) (apart : int_eq n c ≡ false) (some : text_at ds n ≢ []) where
-  is_there : find int_cmp n ds ≡ Some (text_at ds n)
+module _ (n c : ℤ) (ds : List NumberedText) (sorted : IsTrue (is_sorted int_cmp ds)) (apart : int_eq n c ≡ false) (some : diverted_text ds n ≢ []) where
+  is_there : find int_cmp n ds ≡ Some (diverted_text ds n)
   is_there = some_found n (find int_cmp n ds) some
 
-  module _ (es : List Diversion) (empty : List ℕ) (is_empty : empty ≡ []) (written : es ≡ put int_cmp n empty ds) where
+  module _ (es : List NumberedText) (empty : List ℕ) (is_empty : empty ≡ []) (written : es ≡ put int_cmp n empty ds) where
     out : es ≡ put int_cmp n [] ds
     out = written ∙ ap (λ (x : List ℕ). put int_cmp n x ds) is_empty
 
     pub out_sorted : IsTrue (is_sorted int_cmp es)
-    out_sorted = subst (λ (x : List Diversion). IsTrue (is_sorted int_cmp x)) (sym out) (sorted_put n [] ds sorted)
+    out_sorted = subst (λ (x : List NumberedText). IsTrue (is_sorted int_cmp x)) (sym out) (sorted_put n [] ds sorted)
 
     -- the other text is as before
-    other_text : text_at es c ≡ text_at ds c
+    other_text : diverted_text es c ≡ diverted_text ds c
     other_text =
-        sym (text_at-without n c es apart)
-        ∙ ap (λ (x : List Diversion). text_at x c) (ap (λ (x : List Diversion). without_text x n) out ∙ without-put_itself n [] ds sorted)
-        ∙ text_at-without n c ds apart
+        sym (diverted_text-without n c es apart)
+        ∙ ap (λ (x : List NumberedText). diverted_text x c) (ap (λ (x : List NumberedText). without_text x n) out ∙ without-put_itself n [] ds sorted)
+        ∙ diverted_text-without n c ds apart
 
     -- if the text was refused, it is swapped in again
-    module _ (fs : List Diversion) (refused : fs ≡ es) where
+    module _ (fs : List NumberedText) (refused : fs ≡ es) where
       pub refused_sorted : IsTrue (is_sorted int_cmp fs)
-      refused_sorted = subst (λ (x : List Diversion). IsTrue (is_sorted int_cmp x)) (sym refused) out_sorted
+      refused_sorted = subst (λ (x : List NumberedText). IsTrue (is_sorted int_cmp x)) (sym refused) out_sorted
 
       pub is_found_again : find int_cmp n fs ≢ None
       is_found_again none =
           let there : find int_cmp n fs ≡ Some [] =
-          ap (λ (x : List Diversion). find int_cmp n x) (refused ∙ out)
+          ap (λ (x : List NumberedText). find int_cmp n x) (refused ∙ out)
           ∙ find-put int_cmp int_cmp_total n n [] ds
           ∙ ap (λ (r : Ordering). cond (is_eq r) (Some []) (find int_cmp n ds)) (tied_itself int_cmp_total n) in
           let bad : ◌≡◌ {A = Option (List ℕ)} None (Some []) = sym none ∙ there in
           absurd cc
 
-      pub is_back : (gs : List Diversion) (text : List ℕ) → text ≡ text_at ds n → gs ≡ put int_cmp n text fs → gs ≡ ds
+      pub is_back : (gs : List NumberedText) (text : List ℕ) → text ≡ diverted_text ds n → gs ≡ put int_cmp n text fs → gs ≡ ds
       is_back gs text is back =
           back
           ∙ ap (λ (x : List ℕ). put int_cmp n x fs) is
-          ∙ ap (λ (x : List Diversion). put int_cmp n (text_at ds n) x) (refused ∙ out)
-          ∙ put-put n (text_at ds n) [] ds sorted
-          ∙ put_itself n (text_at ds n) ds sorted is_there
+          ∙ ap (λ (x : List NumberedText). put int_cmp n (diverted_text ds n) x) (refused ∙ out)
+          ∙ put-put n [] (diverted_text ds n) ds
+          ∙ put_itself n (diverted_text ds n) ds sorted is_there
 
     -- otherwise its number leaves
-    module _ (fs : List Diversion) (text : List ℕ) (is : text ≡ text_at ds n) (added : fs ≡ put int_cmp c (text_at es c ++ text) es) where
-      pub added_text : text_at es c ++ text ≡ text_at ds c ++ text_at ds n
-      added_text = ap (λ (x : List ℕ). x ++ text) other_text ∙ ap (λ (x : List ℕ). text_at ds c ++ x) is
+    module _ (fs : List NumberedText) (text : List ℕ) (is : text ≡ diverted_text ds n) (added : fs ≡ put int_cmp c (diverted_text es c ++ text) es) where
+      pub added_text : diverted_text es c ++ text ≡ diverted_text ds c ++ diverted_text ds n
+      added_text = ap (λ (x : List ℕ). x ++ text) other_text ∙ ap (λ (x : List ℕ). diverted_text ds c ++ x) is
 
       pub added_sorted : IsTrue (is_sorted int_cmp fs)
-      added_sorted = subst (λ (x : List Diversion). IsTrue (is_sorted int_cmp x)) (sym added) (sorted_put c (text_at es c ++ text) es out_sorted)
+      added_sorted = subst (λ (x : List NumberedText). IsTrue (is_sorted int_cmp x)) (sym added) (sorted_put c (diverted_text es c ++ text) es out_sorted)
 
-      pub is_joined : (gs : List Diversion) → gs ≡ without_text fs n → gs ≡ put int_cmp c (text_at ds c ++ text_at ds n) (without_text ds n)
+      pub is_joined : (gs : List NumberedText) → gs ≡ without_text fs n → gs ≡ put int_cmp c (diverted_text ds c ++ diverted_text ds n) (without_text ds n)
       is_joined gs left =
           left
-          ∙ ap (λ (x : List Diversion). without_text x n) (added ∙ ap (λ (x : List ℕ). put int_cmp c x es) added_text)
-          ∙ without-put n c (text_at ds c ++ text_at ds n) es out_sorted apart
-          ∙ ap (λ (x : List Diversion). put int_cmp c (text_at ds c ++ text_at ds n) x)
-          (ap (λ (x : List Diversion). without_text x n) out ∙ without-put_itself n [] ds sorted)
+          ∙ ap (λ (x : List NumberedText). without_text x n) (added ∙ ap (λ (x : List ℕ). put int_cmp c x es) added_text)
+          ∙ without-put n c (diverted_text ds c ++ diverted_text ds n) es out_sorted apart
+          ∙ ap (λ (x : List NumberedText). put int_cmp c (diverted_text ds c ++ diverted_text ds n) x)
+          (ap (λ (x : List NumberedText). without_text x n) out ∙ without-put_itself n [] ds sorted)
 
 -- ---- which of the two it is
 
 -- a number that was not found has no text
-pub none_there : (c : ℤ) (es : List Entry) → false ≡ is_some (lookup (is_at (int_cmp c)) es) → text_at (texts_of es) c ≡ []
+pub none_there : (c : ℤ) (es : List Entry) → false ≡ is_some (lookup (is_at (int_cmp c)) es) → diverted_text (texts_of es) c ≡ []
 none_there c es missing =
     ap (λ (o : Option (List ℕ)). unwrap_or o []) (find-of_texts c es) ∙ by (lookup (is_at (int_cmp c)) es) missing
   where
@@ -240,7 +223,7 @@ none_there c es missing =
     by (Some t) e = absurd cc
 
 -- a text that is placed comes after no text
-pub placed_alone : {A E : Type 0} (r : Result A E) (c : ℤ) (before text : List ℕ) (left new : List Diversion) → before ≡ []
+pub placed_alone : {A E : Type 0} (r : Result A E) (c : ℤ) (before text : List ℕ) (left new : List NumberedText) → before ≡ []
     → OnOk r (new ≡ put int_cmp c text left) → OnOk r (new ≡ put int_cmp c (before ++ text) left)
 placed_alone (Ok x) c before text left new none ok = ok ∙ sym (ap (λ (b : List ℕ). put int_cmp c (b ++ text) left) none)
 placed_alone (Err e) c before text left new none ok = tt
@@ -250,7 +233,8 @@ pub sized_alone : {A E : Type 0} (r : Result A E) (before text : List ℕ) → b
 sized_alone r before text none sized = rw none sized
 
 -- what a move gives, in the words of the state
-pub moved_as : {A E : Type 0} (r : Result A E) (n c : ℤ) (ds new : List Diversion) → IsTrue (is_sorted int_cmp ds) → int_eq n c ≡ false → text_at ds n ≢ []
-    → OnOk r (new ≡ put int_cmp c (text_at ds c ++ text_at ds n) (without_text ds n)) → OnOk r (new ≡ without_text (with_text ds c (text_at ds n)) n)
+pub moved_as : {A E : Type 0} (r : Result A E) (n c : ℤ) (ds new : List NumberedText) → IsTrue (is_sorted int_cmp ds) → int_eq n c ≡ false
+    → diverted_text ds n ≢ [] → OnOk r (new ≡ put int_cmp c (diverted_text ds c ++ diverted_text ds n) (without_text ds n))
+    → OnOk r (new ≡ without_text (with_text ds c (diverted_text ds n)) n)
 moved_as (Ok x) n c ds new sorted apart some ok = ok ∙ sym (moved_text n c ds sorted apart some)
 moved_as (Err e) n c ds new sorted apart some ok = tt

@@ -8,7 +8,7 @@ use Rattle.std.specs.FinMap.{is_sorted, int_cmp-IsAntisymmetric}
 use Rattle.std.specs.Cmp.{int_cmp_total, tied_itself}
 use Rattle.std.proofs.lemmas.Option.{same_Some}
 use Rattle.std.specs.FinMap.Entries.{below_all}
-use Rattle.m4_state.specs.State.{IsDiversion, text_at, next_after, Diversion}
+use Rattle.m4_state.specs.State.{IsDiversion, diverted_text, next_after, NumberedText}
 use Rattle.m4_state.specs.NumbersAbove.{above}
 use Rattle.m4_state.proofs.Pairs.{both}
 
@@ -39,19 +39,19 @@ int_lt-irrefl x = by (int_lt x x) refl
 -- ---- the diversions one after the other
 
 -- where the numbers rise from above a number on, all of them lie above it
-above-below : (n m : ℤ) (ds : List Diversion) → int_lt n m ≡ true → IsTrue (below_all int_cmp m ds) → above n ds ≡ ds
+above-below : (n m : ℤ) (ds : List NumberedText) → int_lt n m ≡ true → IsTrue (below_all int_cmp m ds) → above n ds ≡ ds
 above-below n m [] lt h = refl
 above-below n m (d ∷ ds) lt h =
     let next : int_lt m d.0 ≡ true = int_lt-less m d.0 (both _ _ h).0 in
     let here : int_lt n d.0 ≡ true = int_lt-trans n m d.0 lt next in
-    rw here (ap (λ (xs : List Diversion). d ∷ xs) (above-below n m ds lt (both _ _ h).1))
+    rw here (ap (λ (xs : List NumberedText). d ∷ xs) (above-below n m ds lt (both _ _ h).1))
 
 -- the same from the number of the first one on
-above-first : (n : ℤ) (ds : List Diversion) → IsTrue (below_all int_cmp n ds) → above n ds ≡ ds
+above-first : (n : ℤ) (ds : List NumberedText) → IsTrue (below_all int_cmp n ds) → above n ds ≡ ds
 above-first n [] h = refl
 above-first n (d ∷ ds) h =
     let here : int_lt n d.0 ≡ true = int_lt-less n d.0 (both _ _ h).0 in
-    rw here (ap (λ (xs : List Diversion). d ∷ xs) (above-first n ds (both _ _ h).1))
+    rw here (ap (λ (xs : List NumberedText). d ∷ xs) (above-first n ds (both _ _ h).1))
 
 -- what isn't above a number isn't above a greater one, nor is it that one
 not_below : (n m k : ℤ) → int_lt n k ≡ false → int_lt n m ≡ true → int_lt m k ≡ false
@@ -70,12 +70,12 @@ not_tied n m k ge lt = by (int_cmp m k) refl
     by Greater e = refl
 
 -- the diversions above a number are the next one and those above it
-pub record IsNext (n m : ℤ) (ds : List Diversion) : Type 0 where
-  pub above_is : above n ds ≡ (m, text_at ds m) ∷ above m ds
+pub record IsNext (n m : ℤ) (ds : List NumberedText) : Type 0 where
+  pub above_is : above n ds ≡ (m, diverted_text ds m) ∷ above m ds
   pub later : int_lt n m ≡ true
 
 -- the first one is the next
-first : (n m : ℤ) (d : Diversion) (ds : List Diversion) → IsTrue (is_sorted int_cmp (d ∷ ds)) → int_lt n d.0 ≡ true → d.0 ≡ m → IsNext n m (d ∷ ds)
+first : (n m : ℤ) (d : NumberedText) (ds : List NumberedText) → IsTrue (is_sorted int_cmp (d ∷ ds)) → int_lt n d.0 ≡ true → d.0 ≡ m → IsNext n m (d ∷ ds)
 first n m d ds sorted lt is = subst (λ (k : ℤ). IsNext n k (d ∷ ds)) is (record {
   above_is =
       let after : above n ds ≡ ds = above-below n d.0 ds lt (both _ _ sorted).0 in
@@ -86,13 +86,13 @@ first n m d ds sorted lt is = subst (λ (k : ℤ). IsNext n k (d ∷ ds)) is (re
 })
 
 -- a later one is the next
-later : (n m : ℤ) (d : Diversion) (ds : List Diversion) → int_lt n d.0 ≡ false → IsNext n m ds → IsNext n m (d ∷ ds)
+later : (n m : ℤ) (d : NumberedText) (ds : List NumberedText) → int_lt n d.0 ≡ false → IsNext n m ds → IsNext n m (d ∷ ds)
 later n m d ds ge next = record {
   above_is = rw (ge, not_tied n m d.0 ge next.later, not_below n m d.0 ge next.later) next.above_is;
   later = next.later;
 }
 
-pub above-next : (n m : ℤ) (ds : List Diversion) → IsTrue (is_sorted int_cmp ds) → next_after ds n ≡ Some m → IsNext n m ds
+pub above-next : (n m : ℤ) (ds : List NumberedText) → IsTrue (is_sorted int_cmp ds) → next_after ds n ≡ Some m → IsNext n m ds
 above-next n m [] sorted is = absurd cc
 above-next n m (d ∷ ds) sorted is = by (int_lt n d.0) refl is (λ next. above-next n m ds (both _ _ sorted).1 next)
   where
@@ -101,7 +101,7 @@ above-next n m (d ∷ ds) sorted is = by (int_lt n d.0) refl is (λ next. above-
     by false ge is rest = later n m d ds ge (rest is)
 
 -- and none where there is no next one
-pub above-last : (n : ℤ) (ds : List Diversion) → next_after ds n ≡ None → above n ds ≡ []
+pub above-last : (n : ℤ) (ds : List NumberedText) → next_after ds n ≡ None → above n ds ≡ []
 above-last n [] is = refl
 above-last n (d ∷ ds) is = by (int_lt n d.0) is (λ none. above-last n ds none)
   where
@@ -110,14 +110,14 @@ above-last n (d ∷ ds) is = by (int_lt n d.0) is (λ none. above-last n ds none
     by false is rest = rest is
 
 -- all of them lie above 0
-pub above-all : (ds : List Diversion) → AllByRecursion IsDiversion ds → above (pos 0) ds ≡ ds
+pub above-all : (ds : List NumberedText) → AllByRecursion IsDiversion ds → above (pos 0) ds ≡ ds
 above-all [] h = refl
 above-all (d ∷ ds) h =
     let here : int_lt (pos 0) d.0 ≡ true = h.0.positive in
-    rw here (ap (λ (xs : List Diversion). d ∷ xs) (above-all ds h.1))
+    rw here (ap (λ (xs : List NumberedText). d ∷ xs) (above-all ds h.1))
 
 -- the next number is one of 32 bits
-pub next_fits : (n m : ℤ) (ds : List Diversion) → AllByRecursion IsDiversion ds → next_after ds n ≡ Some m → FitsSigned w32 m
+pub next_fits : (n m : ℤ) (ds : List NumberedText) → AllByRecursion IsDiversion ds → next_after ds n ≡ Some m → FitsSigned w32 m
 next_fits n m [] h is = absurd cc
 next_fits n m (d ∷ ds) h is = by (int_lt n d.0) is (λ next. next_fits n m ds h.1 next)
   where

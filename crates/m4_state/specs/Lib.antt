@@ -1,8 +1,11 @@
+pub mod Ascii
 pub mod Builtin
 pub mod ByteWords
+pub mod Columns
 pub mod Definition
 pub mod Delimiters
 pub mod Device
+pub mod Digits
 pub mod DiversionEntries
 pub mod Entries
 pub mod Fresh

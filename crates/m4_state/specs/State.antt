@@ -16,26 +16,21 @@ use Rattle.m4_state.specs.Delimiters.{default_quotes, default_comments, chosen, 
 use Rattle.m4_state.specs.Table.{Pairs, stack_at, with_push, with_top, without, without_top, IsTable, IsSizedTable}
 
 -- a diversion's number and its text
-abbrev pub Diversion : Type 0
-Diversion = ℤ × List ℕ
+abbrev pub NumberedText : Type 0
+NumberedText = ℤ × List ℕ
 
 -- the names in byte order and the diversions by rising number
 pub record State : Type 0 where
   pub table : Pairs
   pub quotes : Delimiters
   pub comments : Delimiters
-  pub diversions : List Diversion
+  pub diversions : List NumberedText
   pub current : ℤ
 
 -- no names, no diversions, the default delimiters
 abbrev pub empty : State
-empty = record {
-  table = [];
-  quotes = default_quotes;
-  comments = default_comments;
-  diversions = [];
-  current = pos 0;
-}
+empty =
+    record { table = []; quotes = default_quotes; comments = default_comments; diversions = []; current = pos 0 }
 
 -- the names, in byte order
 abbrev pub names_of : State → List (List ℕ)
@@ -49,9 +44,9 @@ stack_of s name = stack_at s.table name
 abbrev pub last_of : {A : Type 0} → List A → Option A
 last_of xs = slice_get xs (length xs - 1)
 
--- the top definition
+-- the top definition of a name
 abbrev pub top_of : State → List ℕ → Option Def
-top_of s name = last_of (stack_of s name)
+top_of s name = last_of (stack_at s.table name)
 
 -- with one more definition on those of a name
 abbrev pub pushed : State → List ℕ → Def → State
@@ -78,21 +73,21 @@ abbrev pub with_comments : State → List ℕ → List ℕ → State
 with_comments s begin end = record s { comments = chosen default_comments begin end }
 
 -- the text of a diversion
-abbrev pub text_at : List Diversion → ℤ → List ℕ
-text_at diversions number = unwrap_or (find int_cmp number diversions) []
+abbrev pub diverted_text : List NumberedText → ℤ → List ℕ
+diverted_text diversions number = unwrap_or (find int_cmp number diversions) []
 
 abbrev pub diversion_of : State → ℤ → List ℕ
-diversion_of s number = text_at s.diversions number
+diversion_of s number = diverted_text s.diversions number
 
 -- with another current diversion
 abbrev pub diverted : State → ℤ → State
 diverted s number = record s { current = number }
 
 -- with more text in a diversion of that number; no empty text is stored
-abbrev pub with_text : List Diversion → ℤ → List ℕ → List Diversion
+abbrev pub with_text : List NumberedText → ℤ → List ℕ → List NumberedText
 with_text diversions number [] = diversions
 with_text diversions number (b ∷ text) =
-    put int_cmp number (text_at diversions number ++ b ∷ text) diversions
+    put int_cmp number (diverted_text diversions number ++ b ∷ text) diversions
 
 -- whether text goes to a diversion: only if its number is positive
 abbrev pub holds_text : ℤ → Bool
@@ -105,7 +100,7 @@ appended s text = record s {
 }
 
 -- without the diversion of that number
-abbrev pub without_text : List Diversion → ℤ → List Diversion
+abbrev pub without_text : List NumberedText → ℤ → List NumberedText
 without_text diversions number = filter (λ d. not (int_eq number d.0)) diversions
 
 -- after a diversion is undiverted: its text is removed from it and added to the current diversion, or
@@ -113,12 +108,12 @@ without_text diversions number = filter (λ d. not (int_eq number d.0)) diversio
 abbrev pub undiverted : State → ℤ → State
 undiverted s number =
     if int_eq number s.current then s
-    else appended (record s { diversions = without_text s.diversions number }) (diversion_of s number)
+    else appended (record s { diversions = without_text s.diversions number }) (diverted_text s.diversions number)
 
 -- the text that goes to the output when a diversion is undiverted: all of it if the current
 -- number is 0
 abbrev pub issued_from : State → ℤ → List ℕ
-issued_from s number = if int_eq s.current (pos 0) then diversion_of s number else []
+issued_from s number = if int_eq s.current (pos 0) then diverted_text s.diversions number else []
 
 -- a text, or none if it is empty
 abbrev pub unless_empty : List ℕ → Option (List ℕ)
@@ -126,23 +121,23 @@ unless_empty [] = None
 unless_empty (b ∷ text) = Some (b ∷ text)
 
 -- the first diversion after a number
-abbrev pub next_after : List Diversion → ℤ → Option ℤ
+abbrev pub next_after : List NumberedText → ℤ → Option ℤ
 next_after [] number = None
 next_after (d ∷ diversions) number =
     if int_lt number d.0 then Some d.0 else next_after diversions number
 
 -- a diversion has a positive number of 32 bits and a text
-pub record IsDiversion (d : Diversion) : Type 0 where
+pub record IsDiversion (d : NumberedText) : Type 0 where
   pub positive : IsTrue (holds_text d.0)
   pub fits : FitsSigned w32 d.0
   pub some : d.1 ≢ []
 
 -- the numbers rise, and each diversion is valid
-pub record AreDiversions (diversions : List Diversion) : Type 0 where
+pub record AreDiversions (diversions : List NumberedText) : Type 0 where
   pub sorted : IsTrue (is_sorted int_cmp diversions)
   pub each : AllByRecursion IsDiversion diversions
 
-abbrev pub AreSizedDiversions : List Diversion → Type 0
+abbrev pub AreSizedDiversions : List NumberedText → Type 0
 AreSizedDiversions diversions = AllByRecursion (λ d. length d.1 < 2 ^ 64) diversions
 
 -- the invariant: of each pair of delimiters both are empty or neither is, and the name of a

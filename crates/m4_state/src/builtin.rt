@@ -5,7 +5,7 @@
 //! are as long.
 
 ghost use Rattle.std.specs.Prelude.{◌≡◌, ◌==◌, length, filter};
-ghost use Rattle.m4_state.specs.Builtin.{called};
+ghost use Rattle.m4_state.specs.Builtin.{row_with};
 
 use std::marker::Model;
 
@@ -88,11 +88,11 @@ pub struct Row {
 }
 
 impl Model for Row {
-    ghost use Rattle.m4_state.specs.Builtin.{Row as Record, called};
+    ghost use Rattle.m4_state.specs.Builtin.{Row as Record, row_with};
 
     ghost Value = { Record };
 
-    ghost view = { λ r. called r.name.now r.needs_args r.takes_tokens r.least r.most };
+    ghost view = { λ r. row_with r.name.now r.needs_args r.takes_tokens r.least r.most };
 }
 
 /// Returns a row of the table. The columns are in the order of its fields.
@@ -103,7 +103,7 @@ fn called(
     least: usize,
     most: Option<usize>,
 ) -> Row
-    ensures { result ≡ called name.now needs_args takes_tokens least most }
+    ensures { result ≡ row_with name.now needs_args takes_tokens least most }
 {
     Row {
         name,
@@ -115,7 +115,8 @@ fn called(
 }
 
 impl Builtin {
-    ghost use Rattle.m4_state.specs.Builtin.{row_of, table, builtin_named, name_of, needs_args, takes_tokens};
+    ghost use Rattle.m4_state.specs.Builtin.{row_of, table, builtin_named, name_of};
+    ghost use Rattle.m4_state.specs.Columns.{needs_args, takes_tokens};
 
     /// All builtins.
     pub const TABLE: [Builtin; 29] = [

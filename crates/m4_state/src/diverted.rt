@@ -4,7 +4,7 @@ ghost use Rattle.std.specs.Prelude.{◌≡◌, ◌≢◌, ◌<◌, ◌++◌, ◌
 ghost use Rattle.std.specs.Prelude.{option_map};
 ghost use Rattle.std.specs.Ordering.{int_cmp, int_eq};
 ghost use Rattle.std.specs.FinMap.{find, put, is_sorted};
-ghost use Rattle.m4_state.specs.State.{text_at, without_text};
+ghost use Rattle.m4_state.specs.State.{diverted_text, without_text};
 ghost use Rattle.m4_state.specs.DiversionEntries.{texts_of};
 
 use std::alloc::{AllocError, Global};
@@ -27,9 +27,10 @@ pub fn append_in(
 ) -> Result<(), AllocError>
     requires { IsTrue (is_sorted int_cmp (texts_of texts.old.entries)) }
     ensures ok { OnOk result (texts_of texts.new.entries
-        ≡ put int_cmp number (text_at (texts_of texts.old.entries) number ++ text.now) (texts_of texts.old.entries)) }
+        ≡ put int_cmp number (diverted_text (texts_of texts.old.entries) number ++ text.now)
+        (texts_of texts.old.entries)) }
     ensures err { OnErr result (texts_of texts.new.entries ≡ texts_of texts.old.entries) }
-    ensures sized { OnOk result (length (text_at (texts_of texts.old.entries) number ++ text.now) < 2 ^ 64) }
+    ensures sized { OnOk result (length (diverted_text (texts_of texts.old.entries) number ++ text.now) < 2 ^ 64) }
 {
     // For the proof alone: a length has 64 bits.
     let _len = text.len();
@@ -82,13 +83,14 @@ pub fn move_in(
 ) -> Result<(), AllocError>
     requires sorted { IsTrue (is_sorted int_cmp (texts_of texts.old.entries)) }
     requires apart { int_eq from to ≡ false }
-    requires some { text_at (texts_of texts.old.entries) from ≢ [] }
+    requires some { diverted_text (texts_of texts.old.entries) from ≢ [] }
     ensures ok { OnOk result (texts_of texts.new.entries
-        ≡ put int_cmp to (text_at (texts_of texts.old.entries) to ++ text_at (texts_of texts.old.entries) from)
+        ≡ put int_cmp to
+        (diverted_text (texts_of texts.old.entries) to ++ diverted_text (texts_of texts.old.entries) from)
         (without_text (texts_of texts.old.entries) from)) }
     ensures err { OnErr result (texts_of texts.new.entries ≡ texts_of texts.old.entries) }
-    ensures sized { OnOk result (length (text_at (texts_of texts.old.entries) to
-        ++ text_at (texts_of texts.old.entries) from) < 2 ^ 64) }
+    ensures sized { OnOk result (length (diverted_text (texts_of texts.old.entries) to
+        ++ diverted_text (texts_of texts.old.entries) from) < 2 ^ 64) }
 {
     if !texts.contains_key(&to) {
         return place_in(alloc, texts, from, to);
@@ -111,7 +113,7 @@ pub fn move_in(
 fn swap_in(texts: &mut BTreeMap<i32, Vec<u8>>, number: i32, text: &mut Vec<u8>)
     requires sorted { IsTrue (is_sorted int_cmp (texts_of texts.old.entries)) }
     requires there { find int_cmp number (texts_of texts.old.entries) ≢ None }
-    ensures text { text.new.items ≡ text_at (texts_of texts.old.entries) number }
+    ensures text { text.new.items ≡ diverted_text (texts_of texts.old.entries) number }
     ensures texts { texts_of texts.new.entries ≡ put int_cmp number text.old.items (texts_of texts.old.entries) }
 {
     if let Some(held) = texts.get_mut(&number) {
@@ -129,11 +131,12 @@ fn place_in(
 ) -> Result<(), AllocError>
     requires sorted { IsTrue (is_sorted int_cmp (texts_of texts.old.entries)) }
     requires apart { int_eq from to ≡ false }
-    requires some { text_at (texts_of texts.old.entries) from ≢ [] }
+    requires some { diverted_text (texts_of texts.old.entries) from ≢ [] }
     ensures ok { OnOk result (texts_of texts.new.entries
-        ≡ put int_cmp to (text_at (texts_of texts.old.entries) from) (without_text (texts_of texts.old.entries) from)) }
+        ≡ put int_cmp to (diverted_text (texts_of texts.old.entries) from)
+        (without_text (texts_of texts.old.entries) from)) }
     ensures err { OnErr result (texts_of texts.new.entries ≡ texts_of texts.old.entries) }
-    ensures sized { OnOk result (length (text_at (texts_of texts.old.entries) from) < 2 ^ 64) }
+    ensures sized { OnOk result (length (diverted_text (texts_of texts.old.entries) from) < 2 ^ 64) }
 {
     let place = Vec::new(alloc);
     texts.insert(to, place)?;

@@ -1,9 +1,10 @@
 -- Counts of failures, over several calls.
-use Rattle.std.proofs.Common.{◌≡◌, ℕ, Bool, true, false}
+use Rattle.std.proofs.Common.{◌≡◌, ℕ, Bool, true, false, List, Option}
 use Rattle.std.proofs.Common.{inl, inr, arith}
 use Rattle.std.specs.Prelude.{Result, Ok, Err}
-use Rattle.m4_state.specs.Device.{count_after, one_more}
-use Rattle.m4_tool.specs.FailureCounts.{AnyRose, Counts, Grew, GrewBy, NoneRose, Rose, counts}
+use Rattle.m4_state.specs.Device.{Puts, count_after, one_more}
+use Rattle.m4_tool.specs.FailureCounts.{AnyRose, Counts, Grew, NoneRose, Rose, counts}
+use Rattle.m4_tool.specs.LineEnd.{Reported}
 use Rattle.m4_tool.specs.LineRun.{AllGrew, FlushedAs}
 
 pub grew_none : (f g : ℕ) → g ≡ f → Grew f g
@@ -28,21 +29,23 @@ pub then_rose : (f g h : ℕ) → Grew f g → Rose g h → Rose f h
 then_rose f g h a b = omega (arith, a, b)
 
 -- by the result of one call
-pub grew_by : {A E : Type 0} (r : Result A E) (f g : ℕ) → g ≡ count_after r f → GrewBy r f g
-grew_by (Ok x) f g e = grew_none f g e
-grew_by (Err x) f g e = rose_one f g e
+pub reported_by : {A E : Type 0} (r : Result A E) (line : List ℕ) (old new : Option (List ℕ)) (f g : ℕ)
+    → Puts r old new line → g ≡ count_after r f → Reported line old new f g
+reported_by (Ok x) line old new f g p e = inl (p, grew_none f g e)
+reported_by (Err x) line old new f g p e = inr (p, rose_one f g e)
 
 pub grew_after : {A E : Type 0} (r : Result A E) (f g : ℕ) → g ≡ count_after r f → Grew f g
 grew_after (Ok x) f g e = grew_none f g e
 grew_after (Err x) f g e = grew_one f g e
 
-pub by_grew : {A E : Type 0} (r : Result A E) (f g : ℕ) → GrewBy r f g → Grew f g
-by_grew (Ok x) f g h = h
-by_grew (Err x) f g h = rose_grew f g h
+pub reported_grew : (line : List ℕ) (old new : Option (List ℕ)) (f g : ℕ) → Reported line old new f g → Grew f g
+reported_grew line old new f g (inl r) = r.1
+reported_grew line old new f g (inr r) = rose_grew f g r.1
 
-pub before_by : {A E : Type 0} (r : Result A E) (f g h : ℕ) → Grew f g → GrewBy r g h → GrewBy r f h
-before_by (Ok x) f g h a b = grew_then f g h a b
-before_by (Err x) f g h a b = then_rose f g h a b
+pub before_reported : (line : List ℕ) (old new : Option (List ℕ)) (f g h : ℕ) → Grew f g → Reported line old new g h
+    → Reported line old new f h
+before_reported line old new f g h a (inl r) = inl (r.0, grew_then f g h a r.1)
+before_reported line old new f g h a (inr r) = inr (r.0, then_rose f g h a r.1)
 
 pub unrisen_grew : (c : Counts) → NoneRose c → AllGrew c
 unrisen_grew c n = (grew_none c.out_old c.out_new n.0, grew_none c.messages_old c.messages_new n.1, grew_none c.world_old c.world_new n.2)

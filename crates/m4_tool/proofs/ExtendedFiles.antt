@@ -8,13 +8,14 @@ use Rattle.m4_engine.specs.declared.source.Source.{Source as RunSource}
 use Rattle.m4_engine.specs.declared.source.Source.TheVariants as sources
 use Rattle.m4_engine.specs.File.{Source, Opened, Unopened}
 use Rattle.m4_engine.specs.RunSources.{AllConsumeOnly, ConsumesOnly, ExtendSources, ExtendsOpened, ExtendsRead}
-use Rattle.m4_engine.specs.RunSources.{ExtendsSource, whole}
+use Rattle.m4_engine.specs.RunSources.{ExtendsSource}
 use Rattle.m4_tool.specs.Line.{source_name, LineResult, Missing, Request, Starts, Thawed, all_of, file_source}
-use Rattle.m4_tool.specs.Line.{input_after, line, result_by, script_at, sources_in, thaw_in, words_of}
+use Rattle.m4_tool.specs.Line.{input_after, line_result, result_by, script_at, sources_in, thaw_in, words_of}
 use Rattle.m4_tool.specs.Known.{ExtendFiles, ExtendsFile, MayGive}
 use Rattle.m4_tool.specs.LineRun.{NamedSource, named_in, named_of}
 use Rattle.m4_tool.specs.World.{Files}
 use Rattle.m4_tool.proofs.OpenedFiles.{all_there}
+use Rattle.m4_engine.proofs.Cases.{whole}
 
 -- what was read of a reader, and the rest
 read_extends : (before after : Script) (x more : List ℕ)
@@ -113,7 +114,7 @@ given_by (Starts frozen) o file files input names None r a e = absurd cc
 given_by (Starts frozen) o file files input names (Some ss) r a e =
     (ss, files_there files input names ss (all_there (sources_in files input names) ss a), e)
 
-pub line_given : (q : Request) (files : Files) (input : Script) (r : LineResult) → line q files input ≡ Some r → MayGive q files input r
+pub line_given : (q : Request) (files : Files) (input : Script) (r : LineResult) → line_result q files input ≡ Some r → MayGive q files input r
 line_given q files input r e =
     given_by (thaw_in files q.reload) q.options (unwrap_or q.reload []) files input (words_of q.names)
     (all_of (sources_in files input (words_of q.names))) r refl e

@@ -15,11 +15,12 @@ use Rattle.m4_engine.specs.WholeRun.{WroteAll}
 use Rattle.m4_engine.specs.Writers.{writers}
 use Rattle.m4_tool.specs.declared.followed.Failure.{Failure}
 use Rattle.m4_tool.specs.FollowPromises.{EndsRun}
-use Rattle.m4_tool.specs.Line.{LineResult, Missing, Request, Starts, Thawed, thaw_in, thawed_by}
+use Rattle.m4_tool.specs.Line.{LineResult, Missing, Request, Starts, Thawed, thaw_in}
 use Rattle.m4_tool.specs.LineEnd.{Follows, Seen, failure_of}
 use Rattle.m4_tool.specs.LineRun.{Closes, RanBy, failure_after}
 use Rattle.m4_tool.specs.World.{Files}
 use Rattle.m4_tool.proofs.LineEnds.{seen_from, wrote_all}
+use Rattle.m4_tool.proofs.Cases.{thawed_by}
 
 -- a run that was not begun did not read everything
 pub never_done : {P : Type 0} (e : Ending) → e ≡ record { status = 1; cause = causes.OutOfMemory; wrapped = false } → e.cause ≡ causes.Done → P

@@ -1,3 +1,4 @@
+pub mod Cases
 mod Counts
 mod EndLemmas
 mod Examples

@@ -16,29 +16,31 @@ use Rattle.m4_engine.specs.Expansion.{EndReason, Ends, RunSoFar}
 use Rattle.m4_engine.specs.File.{Source, after_sources, cannot_open}
 use Rattle.m4_engine.specs.Start.{begun, start_of}
 use Rattle.m4_engine.specs.Wraps.{after_wraps}
-use Rattle.m4_engine.specs.Run.{RunResult, status_of, limits_of, result_by, run, saved_after}
+use Rattle.m4_engine.specs.Run.{RunResult, status_of, limits_of, run, saved_after}
 use Rattle.m4_engine.specs.Writers.{Contents, HasWritten, writers}
 use Rattle.m4_engine.specs.WholeRun.{GivesBy, RefusedBy, WroteAll, WrotePrefix}
 use Rattle.m4_tool.specs.declared.followed.Failure.{Failure}
 use Rattle.m4_tool.specs.declared.followed.Failure.TheVariants as failures
-use Rattle.m4_tool.specs.Failure.{failure_lines, lines_of, status_after}
+use Rattle.m4_tool.specs.Failure.{failure_line, failure_lines, status_after}
 use Rattle.m4_tool.specs.Line.{refused_line, LineResult, refusals, refusals_by, result_of_run, unreloaded}
+use Rattle.m4_tool.specs.ModeFault.{frozen_line}
 use Rattle.m4_tool.specs.FailureCounts.{Grew}
 use Rattle.m4_tool.specs.LineEnd.{failure_by, failure_of, frozen_failure, AsDefined, BrokeOff, EndsBy, FilesBy}
 use Rattle.m4_tool.specs.LineEnd.{HasPrefix, RefusesAs, Reports, Seen, added_lines}
 use Rattle.m4_tool.specs.LineRun.{Closes, CountedBy, RanBy, RanFiles, failure_after}
 use Rattle.m4_tool.specs.World.{Files, made_file}
-use Rattle.m4_tool.proofs.Counts.{before_by, by_grew, grew_by, grew_none, grew_one, grew_then}
+use Rattle.m4_tool.proofs.Counts.{before_reported, grew_none, grew_one, grew_then, reported_by, reported_grew}
+use Rattle.m4_engine.proofs.Cases.{result_by}
 
 -- lines that were added after some failures
 pub reports-before : (xs : List (List ℕ)) (a b : Option (List ℕ)) (f g h : ℕ) → Grew f g → Reports xs a b g h → Reports xs a b f h
 reports-before [] a b f g h k p = (p.0, grew_then f g h k p.1)
-reports-before (x ∷ xs) a b f g h k p = (p.0, p.1, record { put = p.2.put; puts = p.2.puts; counted = before_by p.2.put f g p.1 k p.2.counted }, p.3)
+reports-before (x ∷ xs) a b f g h k p = (p.0, p.1, before_reported x a p.0 f g p.1 k p.2, p.3)
 
 -- the messages' count doesn't fall
 pub reports-grew : (xs : List (List ℕ)) (a b : Option (List ℕ)) (f h : ℕ) → Reports xs a b f h → Grew f h
 reports-grew [] a b f h p = p.1
-reports-grew (x ∷ xs) a b f h p = grew_then f p.1 h (by_grew p.2.put f p.1 p.2.counted) (reports-grew xs p.0 b p.1 h p.3)
+reports-grew (x ∷ xs) a b f h p = grew_then f p.1 h (reported_grew x a p.0 f p.1 p.2) (reports-grew xs p.0 b p.1 h p.3)
 
 -- lines that were added one list after the other
 pub reports-append : (xs ys : List (List ℕ)) (a b c : Option (List ℕ)) (f g h : ℕ) → Reports xs a b f g → Reports ys b c g h → Reports (xs ++ ys) a c f h
@@ -376,16 +378,19 @@ pub refusal_reported : (cause : Cause) (fault : FrozenFault) (file : List ℕ) (
     → Grew g h → Reports (refusals file cause) old new f h
 refusal_reported cause fault file r old mid new f g h is p n k l =
     subst (λ (c : Cause). Puts r old mid (refused_line file c) → Reports (refusals file c) old new f h) (sym is)
-    (λ q. (mid, g, record { put = r; puts = q; counted = grew_by r f g n }, (k, l))) p
+    (λ q. (mid, g, reported_by r (frozen_line file fault) old mid f g q n, (k, l))) p
 
 pub some_refused : (cause : Cause) (fault : FrozenFault) (file : List ℕ) → cause ≡ causes.Frozen fault → refusals file cause ≢ []
 some_refused cause fault file is = subst (λ (c : Cause). refusals file c ≢ []) (sym is) (λ q. cc)
 
--- a line that is not empty
-pub line_reported : (line : List ℕ) (old new : Option (List ℕ)) (f g : ℕ) → (length line == 0) ≡ false
-    → Reports (line ∷ []) old new f g → Reports (lines_of line) old new f g
-line_reported [] old new f g e p = absurd cc
-line_reported (b ∷ bs) old new f g e p = p
+-- the line of a failure that has one
+pub line_reported : (failure : Failure) (old new : Option (List ℕ)) (f g : ℕ) → (length (failure_line failure) == 0) ≡ false
+    → Reports (failure_line failure ∷ []) old new f g → Reports (failure_lines (Some failure)) old new f g
+line_reported failures.Read old new f g e p = p
+line_reported failures.Write old new f g e p = p
+line_reported failures.OutOfMemory old new f g e p = p
+line_reported failures.Load old new f g e p = absurd cc
+line_reported failures.Report old new f g e p = absurd cc
 
 -- the same end, by the names of its parts
 pub ends_as : (failure : Option Failure) (name file file' : List ℕ) (r r' : LineResult) (status : ℕ) (w : Seen)

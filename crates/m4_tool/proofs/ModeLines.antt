@@ -7,13 +7,13 @@ use Rattle.m4_engine.specs.File.{cannot_open}
 use Rattle.m4_tool.specs.declared.fault.ModeFault.{ModeFault}
 use Rattle.m4_tool.specs.declared.modes.Mode.{Mode}
 use Rattle.m4_tool.specs.World.{Files}
-use Rattle.m4_tool.specs.ModeFault.{status_of}
+use Rattle.m4_tool.specs.ModeFault.{fault_line, status_of}
 use Rattle.m4_tool.specs.declared.fault.ModeFault.TheVariants as faults
 use Rattle.m4_tool.specs.Modes.{IsOfDevice, ModeRuns, ReportsFault}
 use Rattle.m4_tool.specs.FailureCounts.{Counts, counts}
 use Rattle.m4_tool.specs.LineEnd.{Reports}
 use Rattle.m4_tool.specs.LineRun.{FlushedAs, ModeCloses}
-use Rattle.m4_tool.proofs.Counts.{flushed_grew, grew_after, grew_by, grew_none, rose_one, rose_then, then_any}
+use Rattle.m4_tool.proofs.Counts.{flushed_grew, grew_after, grew_none, reported_by, rose_one, rose_then, then_any}
 use Rattle.m4_tool.specs.LineMode.{FlushedOr, ModeFailedAs, ModeFollows, OnlyMessagesRose, closed_lines}
 use Rattle.m4_tool.specs.LineMode.{closed_status, ends_of, fault_lines}
 use Rattle.m4_tool.proofs.LineEnds.{reports-append, seen_from}
@@ -21,7 +21,7 @@ use Rattle.m4_tool.proofs.LineEnds.{reports-append, seen_from}
 fault_reported : (end : Result (Unit {0}) ModeFault) (file : List ℕ) (m m' : Option (List ℕ)) (f f' : ℕ)
     → ReportsFault end file m m' f f' → Reports (fault_lines file end) m m' f f'
 fault_reported (Ok done) file m m' f f' h = (h.0, grew_none f f' h.1)
-fault_reported (Err fault) file m m' f f' h = (m', f', record { put = h.0; puts = h.1; counted = grew_by h.0 f f' h.2 }, (refl, grew_none f' f' refl))
+fault_reported (Err fault) file m m' f f' h = (m', f', reported_by h.0 (fault_line file fault) m m' f f' h.1 h.2, (refl, grew_none f' f' refl))
 
 -- a mode that wrote the line of its fault, and its last flush
 fault_counted : (flushed : Bool) (put : Result (Unit {0}) DeviceFault) (o o1 o2 f f1 f2 w w2 : ℕ) → o1 ≡ o
@@ -81,7 +81,7 @@ pub mode_missed : (mode : Mode) (file : List ℕ) (given : Option Script) (put :
 mode_missed mode file None put o o' m m1 m2 f f1 f2 answer w w' c d e p n k q = record {
   is_status = k.is_status;
   output = k.output;
-  messages = (m1, f1, record { put = put; puts = p; counted = grew_by put f f1 n }, (k.reports.0, k.reports.1));
+  messages = (m1, f1, reported_by put (cannot_open file) m m1 f f1 p n, (k.reports.0, k.reports.1));
   files = q;
 }
 mode_missed mode file (Some x) put o o' m m1 m2 f f1 f2 answer w w' c d e p n k q = absurd cc

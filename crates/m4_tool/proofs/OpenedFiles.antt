@@ -10,10 +10,11 @@ use Rattle.m4_engine.specs.File.{Source}
 use Rattle.m4_engine.specs.Run.{run}
 use Rattle.m4_engine.specs.RunSources.{DescribesFrozen}
 use Rattle.m4_tool.specs.World.{Files}
-use Rattle.m4_tool.specs.Line.{LineResult, all_of, and_then, input_after, result_by, result_of_run, thaw_in}
-use Rattle.m4_tool.specs.Line.{thawed_by, unreloaded}
+use Rattle.m4_tool.specs.Line.{LineResult, all_of, input_after, result_by, result_of_run, thaw_in}
+use Rattle.m4_tool.specs.Line.{unreloaded}
 use Rattle.m4_tool.specs.LineRun.{NamedSource, named_at, named_in, named_of}
 use Rattle.m4_tool.proofs.Places.{at_place}
+use Rattle.m4_tool.proofs.Cases.{and_then, thawed_by}
 
 -- the files before a place were opened
 pub record Opening {R A : Type 0} (script : R → Option Script) (bytes_of : A → List ℕ) (files : Files) (input : Script)

@@ -30,10 +30,11 @@ use Rattle.m4_tool.specs.FollowPromises.{EndsRun, IsFollowed, seen_by}
 use Rattle.m4_tool.specs.Known.{ExtendFiles, ExtendsFile}
 use Rattle.m4_tool.specs.Line.{LineResult, Missing, Request, Starts, Thawed, freeze_name, input_after, is_input}
 use Rattle.m4_tool.specs.Line.{refusals_by, reload_name, result_by, result_of_run, script_at, source_name, thaw_in}
-use Rattle.m4_tool.specs.Line.{thawed_by, unreloaded, words_of}
+use Rattle.m4_tool.specs.Line.{unreloaded, words_of}
 use Rattle.m4_tool.specs.LineEnd.{AsDefined, EndsBy, Reports}
 use Rattle.m4_tool.specs.ThreeLines.{Adds, ThreeLines, request}
 use Rattle.m4_tool.proofs.ExtendedFiles.{files_given}
+use Rattle.m4_tool.proofs.Cases.{thawed_by}
 
 some_in : {A : Type 0} (a b : A) → Some a ≡ Some b → a ≡ b
 some_in a b e = ap (λ (o : Option _). unwrap_or o a) e

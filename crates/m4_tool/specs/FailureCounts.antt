@@ -1,6 +1,6 @@
 -- FailureCounts: how often the devices of a line failed, and what is answered of that.
 -- Believed: public contracts cite it. Words: Grew, Rose, Counts, counts_of, NoneRose, AnyRose, FailedAs.
-use Rattle.std.specs.Prelude.{◌≡◌, ◌⊎◌, ◌≤◌, ◌^◌, ◌-◌, min, ℕ, Option, Some, None, Result, Ok, Err}
+use Rattle.std.specs.Prelude.{◌≡◌, ◌⊎◌, ◌≤◌, ◌^◌, ◌-◌, min, ℕ, Option, Some, None}
 use Rattle.m4_state.specs.Device.{one_more}
 use Rattle.m4_tool.specs.declared.followed.Failure.{Failure}
 use Rattle.m4_tool.specs.declared.followed.Failure.TheVariants as failures
@@ -12,11 +12,6 @@ Grew old new = min old (2 ^ 64 - 1) ≤ min new (2 ^ 64 - 1)
 -- there were more failures
 abbrev pub Rose : ℕ → ℕ → Type 0
 Rose old new = one_more old ≤ min new (2 ^ 64 - 1)
-
--- by a result: if it is an error, there was a failure more
-abbrev pub GrewBy : {A E : Type 0} → Result A E → ℕ → ℕ → Type 0
-GrewBy (Ok x) old new = Grew old new
-GrewBy (Err e) old new = Rose old new
 
 -- how often writes and flushes of the output, of the messages and of the world's file failed, before and after
 pub record Counts : Type 0 where

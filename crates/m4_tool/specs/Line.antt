@@ -1,7 +1,7 @@
--- Line: what a run over the files of a line gives in a world of files.
+-- Line: what a run over the files of a line gives in a world of files. Its point is `line_result`.
 -- Believed: public contracts cite it. Manual: "Invoking m4", "Command line files", "Fast loading of frozen state".
 -- Words: Request, request_of, source_name, sources_in, words_of, all_of, refused_line, Thawed, thaw_in, LineResult,
--- line.
+-- line_result.
 -- own: a frozen file that can't be opened is the only work of its line; standard input is read once.
 use Rattle.std.specs.Prelude.{ℕ, Bool, false, List, [], ◌∷◌, map, Option, Some, None}
 use Rattle.std.specs.Prelude.{option_map, unwrap_or, codes, string_bytes, if◌then◌else◌}
@@ -11,12 +11,10 @@ use Rattle.m4_engine.specs.declared.options.Options.{Options}
 use Rattle.m4_engine.specs.declared.ending.Cause.{Cause}
 use Rattle.m4_engine.specs.declared.ending.Cause.TheVariants as causes
 use Rattle.m4_engine.specs.Expansion.{EndReason, Ends}
-use Rattle.m4_engine.specs.File.{Source, Unopened, cannot_open}
-use Rattle.m4_engine.specs.RunSources.{whole}
+use Rattle.m4_engine.specs.File.{Source, Opened, Unopened, cannot_open}
 use Rattle.m4_engine.specs.Run.{RunResult, run}
 use Rattle.m4_tool.specs.declared.line.Line.{Line}
-use Rattle.m4_tool.specs.declared.fault.ModeFault.TheVariants as faults
-use Rattle.m4_tool.specs.ModeFault.{fault_line}
+use Rattle.m4_tool.specs.ModeFault.{frozen_line}
 use Rattle.m4_tool.specs.World.{Files}
 
 -- what a line asks for if it has no mode: the files to be read, and the names to reload from and to freeze to
@@ -51,7 +49,7 @@ source_name file = if bytes_eq file (codes "-") then codes "stdin" else file
 -- the source for a file of this name; none if its reader fails
 abbrev pub file_source : List ℕ → Option Script → Option Source
 file_source name None = Some (Unopened name)
-file_source name (Some script) = whole name script.bytes script.fails
+file_source name (Some script) = if script.fails then None else Some (Opened name script.bytes)
 
 -- the bytes of a word of the line: those of standard input, or of its file
 abbrev pub script_at : Files → Script → List ℕ → Option Script
@@ -77,27 +75,18 @@ words_of [] = codes "-" ∷ []
 words_of (name ∷ names) = name ∷ names
 
 -- all of the sources, if none is missing
-abbrev pub and_then : Option Source → Option (List Source) → Option (List Source)
-and_then None rest = None
-and_then (Some s) None = None
-and_then (Some s) (Some ss) = Some (s ∷ ss)
-
 abbrev pub all_of : List (Option Source) → Option (List Source)
 all_of [] = Some []
-all_of (s ∷ ss) = and_then s (all_of ss)
+all_of (o ∷ os) = elim o [ None ↦ None | Some s ↦ option_map (λ ss. s ∷ ss) (all_of os) ]
 
 -- what a run starts from: a frozen file or none, or the name of one that can't be opened
 pub data Thawed : Type 0 where
   Starts : (file : Option Script) → Thawed
   Missing : (name : List ℕ) → Thawed
 
-abbrev pub thawed_by : List ℕ → Option Script → Thawed
-thawed_by name None = Missing name
-thawed_by name (Some script) = Starts (Some script)
-
 abbrev pub thaw_in : Files → Option (List ℕ) → Thawed
 thaw_in files None = Starts None
-thaw_in files (Some name) = thawed_by name (files name)
+thaw_in files (Some name) = elim (files name) [ None ↦ Missing name | Some script ↦ Starts (Some script) ]
 
 -- the output and the messages of a run, the lines that the program adds, the status, and the frozen text,
 -- which is empty if nothing is frozen
@@ -110,12 +99,12 @@ pub record LineResult : Type 0 where
 
 -- the line of the frozen file, if the run ended because it was refused
 abbrev pub refused_line : List ℕ → Cause → List ℕ
-refused_line file (causes.Frozen fault) = fault_line file (faults.Frozen fault)
+refused_line file (causes.Frozen fault) = frozen_line file fault
 refused_line file cause = []
 
 -- the line for a frozen file that was refused
 abbrev pub refusals : List ℕ → Cause → List (List ℕ)
-refusals file (causes.Frozen fault) = refused_line file (causes.Frozen fault) ∷ []
+refusals file (causes.Frozen fault) = frozen_line file fault ∷ []
 refusals file cause = []
 
 abbrev pub refusals_by : List ℕ → EndReason → List (List ℕ)
@@ -141,7 +130,7 @@ result_by (Starts frozen) o file None = None
 result_by (Starts frozen) o file (Some ss) = Some (result_of_run file (run o frozen ss))
 
 -- the result of a line; none if a source's reader fails
-abbrev pub line : Request → Files → Script → Option LineResult
-line q files input =
-    result_by (thaw_in files q.reload) q.options (reload_name q)
+abbrev pub line_result : Request → Files → Script → Option LineResult
+line_result q files input =
+    result_by (thaw_in files q.reload) q.options (unwrap_or q.reload [])
     (all_of (sources_in files input (words_of q.names)))

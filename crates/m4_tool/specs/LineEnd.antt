@@ -1,11 +1,10 @@
--- LineEnd: how following a line ends: as the line is defined, or broken off by a failure.
+-- LineEnd: how following a line ends: as the line is defined, or broken off by a failure. Its point is `Follows`.
 -- Believed: public contracts cite it. Words: Seen, seen, AllShown, IsShownSince, Reports, failure_of, AsDefined,
 -- BrokeOff, Follows.
 -- own: that a last flush that fails is a write fault.
-use Rattle.std.specs.Prelude.{◌≡◌, ◌≢◌, ◌⊎◌, ℕ, Bool, true, false, List, [], ◌∷◌, ◌++◌, Option, Some, None, Result}
+use Rattle.std.specs.Prelude.{◌≡◌, ◌≢◌, ◌⊎◌, ℕ, Bool, true, false, List, [], ◌∷◌, ◌++◌, Option, Some, None}
 use Rattle.std.specs.Prelude.{option_map, unwrap_or}
-use Rattle.m4_state.specs.Device.{with_bytes, HasBegun, Puts}
-use Rattle.m4_state.specs.declared.device.DeviceFault.{DeviceFault}
+use Rattle.m4_state.specs.Device.{with_bytes, HasBegun}
 use Rattle.m4_frozen.specs.declared.fault.FrozenKind.{FrozenKind}
 use Rattle.m4_frozen.specs.declared.fault.FrozenKind.TheVariants as kinds
 use Rattle.m4_engine.specs.declared.ending.Cause.{Cause}
@@ -13,8 +12,8 @@ use Rattle.m4_engine.specs.declared.ending.Cause.TheVariants as causes
 use Rattle.m4_tool.specs.declared.followed.Failure.{Failure}
 use Rattle.m4_tool.specs.declared.followed.Failure.TheVariants as failures
 use Rattle.m4_tool.specs.Failure.{failure_lines}
-use Rattle.m4_tool.specs.FailureCounts.{Grew, GrewBy, Rose}
-use Rattle.m4_tool.specs.Line.{LineResult, Request, freeze_name, refusals, reload_name}
+use Rattle.m4_tool.specs.FailureCounts.{Grew, Rose}
+use Rattle.m4_tool.specs.Line.{LineResult, Request, refusals}
 use Rattle.m4_tool.specs.World.{Files, with_file, made_file}
 
 -- the writers and the files before and after; `failures` counts the failed writes and flushes of messages
@@ -54,10 +53,10 @@ pub record IsShownSince (base : ℕ) (shown contents : Option (List ℕ)) (failu
   pub shows : (shown ≡ contents) ⊎ Rose base failures
 
 -- a line was added to the messages, or a prefix of it if the messages failed
-pub record Reported (line : List ℕ) (old new : Option (List ℕ)) (failures failures' : ℕ) : Type 0 where
-  pub put : Result (Unit {0}) DeviceFault
-  pub puts : Puts put old new line
-  pub counted : GrewBy put failures failures'
+abbrev pub Reported : List ℕ → Option (List ℕ) → Option (List ℕ) → ℕ → ℕ → Type 0
+Reported line old new failures failures' =
+    ((new ≡ with_bytes old line) × Grew failures failures')
+    ⊎ (HasBegun old new line × Rose failures failures')
 
 -- these lines were added in order
 abbrev pub Reports : List (List ℕ) → Option (List ℕ) → Option (List ℕ) → ℕ → ℕ → Type 0
@@ -140,7 +139,6 @@ EndsBy None name file r status w = AsDefined name r status w
 EndsBy (Some failures.Report) name file r status w = AsDefined name r status w × (r.lines ≢ [])
 EndsBy (Some failure) name file r status w = BrokeOff name file r status failure w
 
--- a line whose result is r was followed
+-- a line whose result is r was followed; a name that it lacks is empty
 abbrev pub Follows : Request → LineResult → ℕ → Option Failure → Seen → Type 0
-Follows q r status failure w =
-    EndsBy failure (freeze_name q) (reload_name q) r status w
+Follows q r status failure w = EndsBy failure (unwrap_or q.freeze []) (unwrap_or q.reload []) r status w

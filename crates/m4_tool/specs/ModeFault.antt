@@ -1,7 +1,8 @@
 -- The messages and statuses for a mode that did not do its work.
--- Believed. Words: fault_line, status_of_fault, status_of.
+-- Believed. Words: frozen_line, fault_line, status_of_fault, status_of.
 -- own: all of it; the manual has no such modes.
 use Rattle.std.specs.Prelude.{ℕ, List, [], ◌++◌, codes, decimal, Result, Ok, Err}
+use Rattle.m4_frozen.specs.declared.fault.FrozenFault.{FrozenFault}
 use Rattle.m4_frozen.specs.declared.fault.FrozenKind.{FrozenKind}
 use Rattle.m4_frozen.specs.declared.fault.FrozenKind.TheVariants as kinds
 use Rattle.m4_frozen.specs.declared.fault.WriteFault.{WriteFault}
@@ -37,10 +38,14 @@ place_of kinds.Read offset = []
 place_of kinds.OutOfMemory offset = []
 place_of kind offset = codes " at byte " ++ decimal offset
 
+-- the line that reports the fault of a frozen file
+abbrev pub frozen_line : List ℕ → FrozenFault → List ℕ
+frozen_line file f =
+    codes "m4: " ++ (file ++ (codes ": " ++ (kind_text f.kind ++ (place_of f.kind f.offset ++ codes "\n"))))
+
 -- the line that reports the fault of a file
 abbrev pub fault_line : List ℕ → ModeFault → List ℕ
-fault_line file (faults.Frozen f) =
-    codes "m4: " ++ (file ++ (codes ": " ++ (kind_text f.kind ++ (place_of f.kind f.offset ++ codes "\n"))))
+fault_line file (faults.Frozen f) = frozen_line file f
 fault_line file faults.Issues =
     codes "m4: " ++ (file ++ (codes ": " ++ (codes "K1 text would be issued at reload" ++ codes "\n")))
 fault_line file faults.Write = failure_line failures.Write

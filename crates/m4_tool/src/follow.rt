@@ -8,7 +8,7 @@ ghost use Rattle.m4_engine.specs.File.{Source as Said};
 ghost use Rattle.m4_engine.specs.Run.{run as defined};
 ghost use Rattle.m4_tool.specs.World.{Files};
 ghost use Rattle.m4_tool.specs.FollowPromises.{EndsRun, IsFollowed};
-ghost use Rattle.m4_tool.specs.Line.{LineResult, Starts, freeze_name, line as line_result, request_of, result_of_run};
+ghost use Rattle.m4_tool.specs.Line.{LineResult, Starts, freeze_name, line_result, request_of, result_of_run};
 ghost use Rattle.m4_tool.specs.Line.{thaw_in, words_of};
 ghost use Rattle.m4_tool.specs.FailureCounts.{AnyRose, FailedAs, counts_of};
 ghost use Rattle.m4_tool.specs.declared.followed.Failure.TheVariants as failures;

@@ -1,5 +1,5 @@
 use Rattle.std.proofs.Common.{◌≡◌, sym, subst, length, nat_lt, false, true, rules}
-use Rattle.m4_state.specs.Builtin.{least_of, most_of}
+use Rattle.m4_state.specs.Columns.{least_of, most_of}
 use Rattle.m4_builtins.specs.Acted.{Acted}
 use Rattle.m4_builtins.specs.Act.{is_above, row, goes_on}
 use Rattle.m4_builtins.specs.Steps.{LeadsTo}

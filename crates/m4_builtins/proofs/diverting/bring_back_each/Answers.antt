@@ -5,7 +5,7 @@ use Rattle.std.proofs.lemmas.Grind.{common_steps}
 use Rattle.std.proofs.lemmas.List.{drop_more}
 use Rattle.m4_builtins.specs.declared.args.Arg.{Arg}
 use Rattle.m4_builtins.specs.Args.{text_of_arg}
-use Rattle.m4_builtins.specs.Diverting.{brought_back, issued_by, readings_of}
+use Rattle.m4_builtins.specs.Diverting.{brought_back, issued_by_all, readings_of}
 use Rattle.m4_builtins.specs.Numeric.{number_of_reading, reading_of}
 use Rattle.m4_builtins.proofs.Brought.{each-next}
 use Rattle.m4_builtins.proofs.diverting.bring_back_each.Goals as goal
@@ -30,14 +30,14 @@ loop-arg-preserved c =
       | in-Some+in_ok-bring_back w ↦ search (rules, w.in-Some.is)
       | in_default w ↦ search (rules, w.in_default.is)
     ] in
-    let written : c.match-branch-2.output.items ≡ c.loop-arg.output.items ++ issued_by (option_to_list o) s = elim c.match-branch-2.branch [
+    let written : c.match-branch-2.output.items ≡ c.loop-arg.output.items ++ issued_by_all (option_to_list o) s = elim c.match-branch-2.branch [
       | in-Some+in_ok-bring_back w ↦ search (rules, w.in-Some.is)
       | in_default w ↦ search (rules, w.in_default.is, append-nil)
     ] in
     let next = each-next o others s t c.loop-arg.output.items c.match-branch-2.output.items step written in
     record {
       state = next.0 ∙ ap (λ (ns : List ℤ). brought_back ns s) (sym left) ∙ c.loop-arg.invariant.state;
-      output = next.1 ∙ ap (λ (ns : List ℤ). c.loop-arg.output.items ++ issued_by ns s) (sym left) ∙ c.loop-arg.invariant.output;
+      output = next.1 ∙ ap (λ (ns : List ℤ). c.loop-arg.output.items ++ issued_by_all ns s) (sym left) ∙ c.loop-arg.invariant.output;
       warned = grind (arith, common_steps);
     }
 

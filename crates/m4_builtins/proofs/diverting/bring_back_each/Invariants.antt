@@ -1,7 +1,7 @@
 use Rattle.std.proofs.Common.{◌≡◌, ◌++◌, drop}
 use Rattle.std.specs.Prelude.{filter_map, flat_map}
 use Rattle.m4_state.specs.declared.builtin.Builtin.TheVariants.{Undivert}
-use Rattle.m4_builtins.specs.Diverting.{brought_back, issued_by, readings_of}
+use Rattle.m4_builtins.specs.Diverting.{brought_back, issued_by_all, readings_of}
 use Rattle.m4_builtins.specs.Numeric.{number_of_reading, reading_warning}
 use Rattle.m4_builtins.proofs.diverting.bring_back_each.Given as goal
 
@@ -10,8 +10,8 @@ abbrev pub invariant-loop-arg : goal.invariant-loop-arg
 invariant-loop-arg l = record {
   state : brought_back (filter_map number_of_reading (readings_of (drop l.arg-index l.list))) l.state
       ≡ brought_back (filter_map number_of_reading (readings_of l.list)) l.fn.state;
-  output : l.output.items ++ issued_by (filter_map number_of_reading (readings_of (drop l.arg-index l.list))) l.state
-      ≡ l.fn.output.items ++ issued_by (filter_map number_of_reading (readings_of l.list)) l.fn.state;
+  output : l.output.items ++ issued_by_all (filter_map number_of_reading (readings_of (drop l.arg-index l.list))) l.state
+      ≡ l.fn.output.items ++ issued_by_all (filter_map number_of_reading (readings_of l.list)) l.fn.state;
   warned : l.messages.items ++ flat_map (reading_warning l.place Undivert) (readings_of (drop l.arg-index l.list))
       ≡ l.fn.messages.items ++ flat_map (reading_warning l.place Undivert) (readings_of l.list);
 }

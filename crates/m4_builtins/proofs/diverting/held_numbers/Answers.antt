@@ -3,7 +3,7 @@ use Rattle.std.proofs.Common.{append_assoc, append-nil}
 use Rattle.std.specs.Int.{w32}
 use Rattle.std.proofs.lemmas.Int.{to_z-of_z}
 use mir.Val.{to_z}
-use Rattle.m4_state.specs.State.{Diversion}
+use Rattle.m4_state.specs.State.{NumberedText}
 use Rattle.m4_state.specs.NumbersAbove.{above, numbers_above}
 use Rattle.m4_state.proofs.NumbersAbove.{above-next, above-last, above-all, next_fits}
 use Rattle.m4_builtins.proofs.diverting.held_numbers.Goals as goal
@@ -13,7 +13,7 @@ pub loop-number-init : goal.loop-number-init
 loop-number-init c valid =
     let ds = c.args.state.now.diversions in
     let all = above-all ds valid.each in
-    rw c.new-numbers.ensures.items (ap (λ (es : List Diversion). Rattle.std.proofs.Common.map (λ e. e.0) es) all)
+    rw c.new-numbers.ensures.items (ap (λ (es : List NumberedText). Rattle.std.proofs.Common.map (λ e. e.0) es) all)
 
 -- one diversion less is left
 pub loop-number-smaller : goal.loop-number-smaller

@@ -4,7 +4,7 @@ use Rattle.std.specs.Prelude.{FitsSigned, option_copied, option_map, slice_get}
 use Rattle.std.specs.Int.{w32}
 use Rattle.std.proofs.lemmas.Int.{to_z-of_z}
 use Rattle.m4_builtins.specs.Args.{text_of_arg, texts_of, text_at}
-use Rattle.m4_builtins.specs.Eval.{with_radix, with_width, with_value, with_digits}
+use Rattle.m4_builtins.specs.Eval.{with_radix, with_width, with_expression, with_digits}
 use Rattle.m4_builtins.specs.ReadsAs.{ReadsAs}
 use Rattle.m4_builtins.proofs.EvalReads.{third as third_text, reads_same, width_missing, digits_read}
 use Rattle.m4_builtins.proofs.eval.digits_in.Goals as goal
@@ -31,7 +31,7 @@ returns-in_default-3 c =
     c.radix_in.new.messages.items c.text_at.ensures (search rules) c.in_ok-radix.ensures in
     let w = reads_same (with_width p) _ (slice_get (texts_of list) 2) _ (Some c.in-Some-2.width)
     c.radix_in.new.messages.items c.width_in.new.messages.items third (search rules) c.in_ok-width.ensures in
-    let v = reads_same (with_value p) _ (text_at list 0) _ None c.width_in.new.messages.items
+    let v = reads_same (with_expression p) _ (text_at list 0) _ None c.width_in.new.messages.items
     c.value_in.new.messages.items c.text_at-2.ensures (search rules) c.in_ok-value.ensures in
     digits_read p list c.in-Some.radix c.in-Some-2.width None c.args.messages.now.items c.radix_in.new.messages.items
     c.width_in.new.messages.items c.value_in.new.messages.items r w v
@@ -49,7 +49,7 @@ returns c =
     c.radix_in.new.messages.items c.text_at.ensures (search rules) c.in_ok-radix.ensures in
     let w = reads_same (with_width p) _ (slice_get (texts_of list) 2) _ (Some c.in-Some-2.width)
     c.radix_in.new.messages.items c.width_in.new.messages.items third (search rules) c.in_ok-width.ensures in
-    let v = reads_same (with_value p) _ (text_at list 0) _ (Some n) c.width_in.new.messages.items
+    let v = reads_same (with_expression p) _ (text_at list 0) _ (Some n) c.width_in.new.messages.items
     c.value_in.new.messages.items c.text_at-2.ensures (search rules) c.in_ok-value.ensures in
     subst (λ (x : List ℕ). ReadsAs (with_digits list p) (Some x) c.args.messages.now.items c.value_in.new.messages.items) (sym written)
     (digits_read p list c.in-Some.radix c.in-Some-2.width (Some n) c.args.messages.now.items

@@ -5,7 +5,8 @@ use Rattle.std.proofs.lemmas.List.Sorted.{ranks_by, answers_always}
 use Rattle.m4_state.specs.Table.{byte_order}
 use Rattle.m4_builtins.specs.declared.effect.Effect.{Effect}
 use Rattle.m4_builtins.specs.Acted.{only_warning}
-use Rattle.m4_builtins.specs.Printing.{names_shown, warnings_on, lines_of, in_byte_order, dumped}
+use Rattle.m4_builtins.specs.Printing.{names_shown, warnings_on, lines_of, in_byte_order}
+use Rattle.m4_builtins.proofs.Cases.{dumped}
 use Rattle.m4_builtins.proofs.SortedTexts.{sorted_in_byte_order}
 use Rattle.m4_builtins.proofs.printing.dumpdef.Goals as goal
 

@@ -2,7 +2,6 @@ use Rattle.std.proofs.Common.{rules, refl, sym, ◌∙◌, Bool}
 use Rattle.std.specs.Prelude.{Ok}
 use Rattle.m4_engine.specs.File.{after_sources}
 use Rattle.m4_engine.specs.Session.{progress_of}
-use Rattle.m4_engine.specs.WholeRun.{ending_by}
 use Rattle.m4_engine.proofs.Readers.{same_fails, close_sound}
 use Rattle.m4_engine.proofs.Whole.{early_so, late_so, well_so, sized_so, last_so, last_unused}
 use Rattle.m4_engine.proofs.Starts.{close_left}
@@ -12,6 +11,7 @@ use Rattle.m4_engine.proofs.Missed.{exited_late, same_stop}
 use Rattle.m4_engine.proofs.Ordering.{same_breaks, sources_step, end_step}
 use Rattle.m4_engine.proofs.run.read_to_end.Goals.{then-freezes, else-freezes}
 use Rattle.m4_engine.proofs.run.read_to_end.Goals as goal
+use Rattle.m4_engine.specs.SessionSteps.{ending_by}
 
 pub returns-in_err-read_sources-clause-writes : goal.returns-in_err-read_sources-clause-writes
 returns-in_err-read_sources-clause-writes g c = λ ss s. record {

@@ -2,7 +2,6 @@ use Rattle.std.proofs.Common.{◌≡◌, ◌∙◌, ap, rules, refl, Some, None}
 use Rattle.std.specs.Prelude.{Err}
 use Rattle.m4_state.specs.State.{IsSized}
 use Rattle.m4_engine.specs.declared.ending.Ending.{Ending}
-use Rattle.m4_engine.specs.WholeRun.{ending_by}
 use Rattle.m4_engine.specs.Start.{start_of}
 use Rattle.m4_engine.specs.Writers.{both, three}
 use Rattle.m4_engine.proofs.Whole.{cause_same, last_unused, left_status}
@@ -13,6 +12,7 @@ use Rattle.m4_engine.proofs.Ordering.{never_told, run_told}
 use Rattle.m4_engine.proofs.Missed.{begun_unmissed, left_exited, never_exited, status_so}
 use Rattle.m4_engine.proofs.run.run_keeping.Goals.{in-Some, in-None}
 use Rattle.m4_engine.proofs.run.run_keeping.Goals as goal
+use Rattle.m4_engine.specs.SessionSteps.{ending_by}
 
 -- the run did not begin
 pub returns-in-Err : goal.returns-in-Err

@@ -6,7 +6,7 @@ use Rattle.std.specs.Ordering.{int_cmp}
 use Rattle.std.specs.declared.alloc.Global.{Global}
 use Rattle.std.proofs.lemmas.Int.{to_z-of_z}
 use Rattle.m4_state.specs.DiversionEntries.{texts_of}
-use Rattle.m4_state.specs.State.{text_at}
+use Rattle.m4_state.specs.State.{diverted_text}
 use Rattle.m4_state.proofs.TextsByNumber.{text_found, text_missing, append_found, append_missing, append_refused}
 use Rattle.m4_state.proofs.diverted.append_in.Goals as goal
 
@@ -40,7 +40,7 @@ returns-in_ok-extend_from_slice-in-Some-clause-sized c =
     let n = c.args.number in
     let es = c.args.texts.now.entries in
     let found : Some c.in-Some.held.now ≡ lookup (is_at (int_cmp n)) es = rw (to_z-of_z w32 n c.ranges.number) at c.in-Some.ensures.value in
-    let items : text_at (texts_of es) n ++ c.args.text.now ≡ c.extend_from_slice.new.self.items =
+    let items : diverted_text (texts_of es) n ++ c.args.text.now ≡ c.extend_from_slice.new.self.items =
     ap (λ (bytes : List ℕ). bytes ++ c.args.text.now) (text_found n c.args.text.now es es c.in-Some.held.now found)
     ∙ sym c.in_ok-extend_from_slice-in-Some.ensures.items in
     rw items (search rules)

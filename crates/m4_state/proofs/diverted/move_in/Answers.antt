@@ -2,7 +2,7 @@ use Rattle.std.proofs.Common.{◌≡◌, sym, ◌∙◌}
 use Rattle.std.specs.Int.{w32}
 use Rattle.std.proofs.lemmas.Int.{to_z-of_z}
 use Rattle.m4_state.specs.DiversionEntries.{texts_of}
-use Rattle.m4_state.specs.State.{text_at, without_text}
+use Rattle.m4_state.specs.State.{diverted_text, without_text}
 use Rattle.m4_state.proofs.MovedText.{none_there, placed_alone, sized_alone}
 use Rattle.m4_state.proofs.MovedText.{out_sorted, refused_sorted, is_found_again, is_back, added_text, added_sorted, is_joined}
 use Rattle.m4_state.proofs.diverted.move_in.Goals as goal
@@ -13,7 +13,7 @@ returns-then-not-contains_key-clause-ok c =
     let ds = texts_of c.args.texts.now.entries in
     let missing = rw c.if-not-contains_key.true at (rw (to_z-of_z w32 c.args.to c.ranges.to) at c.contains_key.ensures) in
     let ok = rw (to_z-of_z w32 c.args.to c.ranges.to) at (rw (to_z-of_z w32 c.args.from c.ranges.from) at c.place_in.ensures.ok) in
-    placed_alone c.place_in.result c.args.to (text_at ds c.args.to) (text_at ds c.args.from)
+    placed_alone c.place_in.result c.args.to (diverted_text ds c.args.to) (diverted_text ds c.args.from)
     (without_text ds c.args.from) (texts_of c.place_in.new.texts.entries)
     (none_there c.args.to c.args.texts.now.entries missing) ok
 
@@ -22,7 +22,7 @@ returns-then-not-contains_key-clause-sized c =
     let ds = texts_of c.args.texts.now.entries in
     let missing = rw c.if-not-contains_key.true at (rw (to_z-of_z w32 c.args.to c.ranges.to) at c.contains_key.ensures) in
     let sized = rw (to_z-of_z w32 c.args.from c.ranges.from) at c.place_in.ensures.sized in
-    sized_alone c.place_in.result (text_at ds c.args.to) (text_at ds c.args.from) (none_there c.args.to c.args.texts.now.entries missing) sized
+    sized_alone c.place_in.result (diverted_text ds c.args.to) (diverted_text ds c.args.from) (none_there c.args.to c.args.texts.now.entries missing) sized
 
 -- it has one: the text is out
 pub append_in-requires : goal.append_in-requires
@@ -41,7 +41,7 @@ take_in-empty-requires c =
     let es = texts_of c.swap_in.new.texts.entries in
     let written = rw (to_z-of_z w32 n c.ranges.from) at c.swap_in.ensures.texts in
     let fs = texts_of c.append_in.new.texts.entries in
-    let taken : c.deref.result.now ≡ text_at ds n = c.deref.ensures.value ∙ (rw (to_z-of_z w32 n c.ranges.from) at c.swap_in.ensures.text) in
+    let taken : c.deref.result.now ≡ diverted_text ds n = c.deref.ensures.value ∙ (rw (to_z-of_z w32 n c.ranges.from) at c.swap_in.ensures.text) in
     let added = rw (to_z-of_z w32 c.args.to c.ranges.to) at c.in-Ok.ensures.ok in
     added_sorted n c.args.to ds c.requires.sorted c.requires.apart c.requires.some es c.new-text.result.items
     c.new-text.ensures.items written fs c.deref.result.now taken added
@@ -53,7 +53,7 @@ returns-in-Ok-clause-ok c =
     let es = texts_of c.swap_in.new.texts.entries in
     let written = rw (to_z-of_z w32 n c.ranges.from) at c.swap_in.ensures.texts in
     let fs = texts_of c.append_in.new.texts.entries in
-    let taken : c.deref.result.now ≡ text_at ds n = c.deref.ensures.value ∙ (rw (to_z-of_z w32 n c.ranges.from) at c.swap_in.ensures.text) in
+    let taken : c.deref.result.now ≡ diverted_text ds n = c.deref.ensures.value ∙ (rw (to_z-of_z w32 n c.ranges.from) at c.swap_in.ensures.text) in
     let added = rw (to_z-of_z w32 c.args.to c.ranges.to) at c.in-Ok.ensures.ok in
     let left = rw (to_z-of_z w32 n c.ranges.from) at c.take_in-empty.ensures.rest in
     is_joined n c.args.to ds c.requires.sorted c.requires.apart c.requires.some es c.new-text.result.items
@@ -66,7 +66,7 @@ returns-in-Ok-clause-sized c =
     let es = texts_of c.swap_in.new.texts.entries in
     let written = rw (to_z-of_z w32 n c.ranges.from) at c.swap_in.ensures.texts in
     let fs = texts_of c.append_in.new.texts.entries in
-    let taken : c.deref.result.now ≡ text_at ds n = c.deref.ensures.value ∙ (rw (to_z-of_z w32 n c.ranges.from) at c.swap_in.ensures.text) in
+    let taken : c.deref.result.now ≡ diverted_text ds n = c.deref.ensures.value ∙ (rw (to_z-of_z w32 n c.ranges.from) at c.swap_in.ensures.text) in
     let added = rw (to_z-of_z w32 c.args.to c.ranges.to) at c.in-Ok.ensures.ok in
     let sized = rw (to_z-of_z w32 c.args.to c.ranges.to) at c.in-Ok.ensures.sized in
     let text = added_text n c.args.to ds c.requires.sorted c.requires.apart c.requires.some es c.new-text.result.items

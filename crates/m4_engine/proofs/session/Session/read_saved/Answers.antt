@@ -2,13 +2,13 @@ use Rattle.std.proofs.Common.{rules, refl, subst}
 use Rattle.std.specs.Prelude.{Ok}
 use Rattle.m4_engine.specs.declared.ending.Cause.TheVariants as causes
 use Rattle.m4_engine.specs.declared.stop.Stop.TheVariants as stops
-use Rattle.m4_engine.specs.Session.{WrapsGive, round_of}
 use Rattle.m4_engine.specs.Writers.{writers}
 use Rattle.m4_engine.proofs.Ordering.{any_breaks, round_told, silent_round, some_saved}
 use Rattle.m4_engine.proofs.Sessions.{round_gives, round_lacked}
 use Rattle.m4_engine.proofs.Wrapping.{none_yet, one_round, all_rounds, round_stops, fewer_rounds}
 use Rattle.m4_engine.proofs.Wrapping.{round_step}
 use Rattle.m4_engine.proofs.session.Session.read_saved.Goals as goal
+use Rattle.m4_engine.specs.SessionSteps.{WrapsGive, round_of}
 
 pub rounds-init : goal.rounds-init
 rounds-init g c = record { live = c.requires; runs = none_yet c.args.self.now _ _; sound = (refl, refl); any_missing = refl }

@@ -1,11 +1,12 @@
-use Rattle.std.proofs.Common.{rules, ◌≡◌, ℕ, [], Option, Some, None, sym, ap, ◌∙◌, subst}
+use Rattle.std.proofs.Common.{rules, ◌≡◌, ℕ, [], Option, Some, None, sym, ap, ◌∙◌, subst, refl}
 use Rattle.std.specs.Prelude.{Ok, Err, IfSome}
 use Rattle.m4_input.specs.declared.fault.InputFault.{InputFault}
 use Rattle.std.proofs.Common.{◌++◌}
 use Rattle.m4_state.specs.declared.definition.Def.{Def}
 use Rattle.m4_input.specs.declared.front.Answer.TheVariants.{Yes, No, Unknown}
 use Rattle.m4_input.specs.Pending.{Pending, text_of}
-use Rattle.m4_input.specs.Paren.{paren_in, paren_from, paren_at}
+use Rattle.m4_input.specs.Paren.{paren_in, paren_at}
+use Rattle.m4_input.proofs.Cases.{paren_from}
 use Rattle.m4_input.specs.Input.{Held, IsLasting, Stopped, StopAsks, ParenGives, wants_list, failures_after}
 use Rattle.std.proofs.Common.{◌+◌, ◌<◌, ◌≤◌, length, arith}
 use Rattle.m4_input.proofs.Blocks.{HasAsked, blocks_left, none_asked, asked_more, asked_stops, stopped_before, block_length, blocks_fall, came_is}
@@ -19,7 +20,7 @@ returns-in-Some-clause-gives g c =
     let l : IsLasting c.in-Some.fault = subst (λ (o : Option InputFault). IfSome o IsLasting) c.in-Some.is c.self.invariant in
     let k = stopped_before (wants_list c.args.delims.now.quotes.now c.args.delims.now.comments.now)
     (g.R.ByteSource.script c.args.reader.now) c.args.self.now c.in-Some.fault e l in
-    ([], k.0, k.1)
+    ([], (c.args.self.now).pending, k.0, k.1, refl)
 
 pub looks-preserved : goal.looks-preserved
 looks-preserved g c =
@@ -104,8 +105,15 @@ returns-in-Yes-clause-gives g c =
     let seen : paren_in q r (h.pending).may_follow (text_of h.pending) ≡ Yes =
     list_seen q r c.self-in-looks.inside h c.in-Ok.others c.in-Ok.text.now Yes c.self-in-looks.view_is
     c.in-Ok.ensures.begins c.in-Ok.ensures.all c.in-Yes.ensures (λ o e. absurd cc) in
-    let k = i.0.1 in
-    (i.0.0, k.reads, ap (λ (o : Option Def). paren_from o q r h.pending) i.1 ∙ seen, k.first, k.sound, k.asks)
+    let k = i.0.1 in (
+      i.0.0,
+      h.pending,
+      k.reads,
+      (ap (λ (o : Option Def). paren_from o q r h.pending) i.1 ∙ seen, refl),
+      k.first,
+      k.sound,
+      k.asks,
+    )
 
 pub returns-in-No-clause-gives : goal.returns-in-No-clause-gives
 returns-in-No-clause-gives g c =
@@ -116,8 +124,15 @@ returns-in-No-clause-gives g c =
     let seen : paren_in q r (h.pending).may_follow (text_of h.pending) ≡ No =
     list_seen q r c.self-in-looks.inside h c.in-Ok.others c.in-Ok.text.now No c.self-in-looks.view_is
     c.in-Ok.ensures.begins c.in-Ok.ensures.all c.in-No.ensures (λ o e. absurd cc) in
-    let k = i.0.1 in
-    (i.0.0, k.reads, ap (λ (o : Option Def). paren_from o q r h.pending) i.1 ∙ seen, k.first, k.sound, k.asks)
+    let k = i.0.1 in (
+      i.0.0,
+      h.pending,
+      k.reads,
+      (ap (λ (o : Option Def). paren_from o q r h.pending) i.1 ∙ seen, refl),
+      k.first,
+      k.sound,
+      k.asks,
+    )
 
 pub returns-in_err-_came-in-Unknown-2-clause-gives : goal.returns-in_err-_came-in-Unknown-2-clause-gives
 returns-in_err-_came-in-Unknown-2-clause-gives g c =
@@ -138,7 +153,7 @@ returns-in_err-_came-in-Unknown-2-clause-gives g c =
     (paren_open q r (h.pending).may_follow (text_of h.pending) seen) w c.in_err-_came-in-Unknown-2.ensures.gives in
     let k : Stopped f s b c.args.self.now new i.0.0 new.pending × StopAsks (wants_list q r) f c.args.self.now i.0.0 new.pending =
     subst (λ (p : Pending). Stopped f s b c.args.self.now new i.0.0 p × StopAsks (wants_list q r) f c.args.self.now i.0.0 p) (sym m.2) (m.0, m.1) in
-    let stops : ParenGives q r s b c.args.self.now new (Err f) = (i.0.0, k.0, k.1) in
+    let stops : ParenGives q r s b c.args.self.now new (Err f) = (i.0.0, new.pending, k.0, k.1, refl) in
     let same : Err f ≡ c.from_residual.result = search rules in
     subst (ParenGives q r s b c.args.self.now new) same stops
 
@@ -150,4 +165,4 @@ returns-then-is_some-clause-gives g c =
     let sound : h.fault ≡ None = ap (λ (i : Held). i.fault) (sym c.self.view_is) ∙ c.in_default.is in
     let k = none_asked (wants_list q r) (g.R.ByteSource.script c.args.reader.now) h sound in
     let none : paren_at q r h.pending ≡ No = search rules in
-    ([], k.reads, none, sound, sound, k.asks)
+    ([], h.pending, k.reads, (none, refl), sound, sound, k.asks)

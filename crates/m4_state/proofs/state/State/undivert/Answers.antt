@@ -3,7 +3,7 @@ use Rattle.std.specs.Prelude.{pos, int_lt}
 use Rattle.std.specs.Int.{w32}
 use Rattle.std.specs.Ordering.{int_eq}
 use Rattle.std.proofs.lemmas.Int.{to_z-of_z}
-use Rattle.m4_state.specs.State.{State, Diversion, unless_empty, issued_from, undiverted}
+use Rattle.m4_state.specs.State.{State, NumberedText, unless_empty, issued_from, undiverted}
 use Rattle.m4_state.specs.StateView.{view_of}
 use Rattle.m4_state.proofs.Undiverted.{issued_from-current, issued_from-zero, is_zero, undiverted-positive, differs}
 use Rattle.m4_state.proofs.state.State.undivert.Goals as goal
@@ -24,7 +24,7 @@ returns-then-self-gt0-clause-ok c =
     let positive : int_lt (pos 0) s.current ≡ true = rw (to_z-of_z w32 s.current c.self.invariant.0.current) at c.if-self-gt0.true in
     let apart : int_eq n s.current ≡ false = differs n s.current (λ same. c.if-number-self.false (ap (of_z w32) same)) in
     let moved = rw (to_z-of_z w32 n c.ranges.number) at (rw (to_z-of_z w32 s.current c.self.invariant.0.current) at c.in_ok-move_text.ensures.ok) in
-    ap (λ (ds : List Diversion). let t : State = record s { diversions = ds } in t) moved
+    ap (λ (ds : List NumberedText). let t : State = record s { diversions = ds } in t) moved
     ∙ undiverted-positive s n c.self.invariant.0 apart positive
     ∙ ap (λ (t : State). undiverted t n) c.self.view_is
 
