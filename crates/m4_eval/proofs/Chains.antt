@@ -9,6 +9,8 @@ use Rattle.m4_input.specs.Ascii.{open_parenthesis, close_parenthesis, is_space}
 use Rattle.m4_input.specs.Token.{run_length}
 use Rattle.m4_eval.specs.declared.frame.Frame.{Frame}
 use Rattle.m4_eval.specs.declared.operator.Operator.{Operator}
+use Rattle.m4_eval.specs.declared.value.Value.{Value}
+use Rattle.m4_eval.specs.declared.value.Value.TheVariants.{Number}
 use Rattle.m4_eval.specs.ReadExpression.{literal_at, sign_at, operator_at, is_alphanumeric, run_of, is_either}
 use Rattle.m4_eval.specs.ReadExpression.{in_radix_from}
 use Rattle.m4_eval.specs.EvaluateSteps.{Place, with_signs, step_from, after_step, alone, closed_place, operated_place}
@@ -23,7 +25,7 @@ use Rattle.m4_eval.proofs.Numbers.{small, from_digit_is}
 use Rattle.m4_eval.proofs.Operands.{in_bits, operand_is, stepped}
 
 -- a byte, by whether it is white space
-abbrev turn : Place → ℕ → List ℕ → Bool → Option (Option ℤ)
+abbrev turn : Place → ℕ → List ℕ → Bool → Option Value
 turn p b x t =
     elim t [
       | true ↦ values_from zero p x
@@ -66,9 +68,9 @@ digit_no_sign b l m =
 -- a literal is an operand, after which the open signs are applied
 pub literal_read : (w : List Frame) (b k : ℕ) (x y : List ℕ) (z : ℤ) → 48 ≤ b → b ≤ 57
     → Some (z, k) ≡ option_map in_bits (literal_at b x) → y ≡ drop k x
-    → values_from zero (with_signs w (Some z)) y ≡ values_from zero (place w None) (b ∷ x)
+    → values_from zero (with_signs w (Number z)) y ≡ values_from zero (place w None) (b ∷ x)
 literal_read w b k x y z l m e d =
-    stepped (place w None) (with_signs w (Some z)) b k x y (digit_no_space b l)
+    stepped (place w None) (with_signs w (Number z)) b k x y (digit_no_space b l)
     (operand_is w b x (Some (z, k)) (digit_no_parenthesis b l) (digit_no_sign b l m) e) d
 
 pub digit_below : (b : ℕ) → 48 ≤ b → b ≤ 57 → digit_value b < 10
@@ -77,7 +79,7 @@ digit_below b l m = grind arith
 -- the same for a decimal one, by the digits after the first
 pub decimal_read : (w : List Frame) (b : ℕ) (x y : List ℕ) (z : ℤ) → 48 ≤ b → b ≤ 57 → (b == 48) ≡ false
     → digit_value b < 10 → bits_after 10 (pos (digit_value b)) (run_of x) ≡ Some z → y ≡ drop (length (run_of x)) x
-    → values_from zero (place w None) (b ∷ x) ≡ values_from zero (with_signs w (Some z)) y
+    → values_from zero (place w None) (b ∷ x) ≡ values_from zero (with_signs w (Number z)) y
 decimal_read w b x y z l m n d h e =
     let t : is_digit b 10 ≡ true = lt-ltb (digit_value b) 10 d in
     let at : literal_at b x ≡ in_radix_from 10 b x = rw (n, t) refl in
@@ -93,12 +95,12 @@ neither c small capital e f = ap (λ t. t || (c == capital)) e ∙ f
 -- the same with white space around the literal
 pub operand_read : (w : List Frame) (text begin : List ℕ) (b : ℕ) (x y rest : List ℕ) (z : ℤ)
     → begin ≡ drop (run_length is_space text) text → begin ≡ b ∷ x
-    → values_from zero (place w None) (b ∷ x) ≡ values_from zero (with_signs w (Some z)) y
+    → values_from zero (place w None) (b ∷ x) ≡ values_from zero (with_signs w (Number z)) y
     → rest ≡ drop (run_length is_space y) y
-    → values_from zero (place w None) text ≡ values_from zero (with_signs w (Some z)) rest
+    → values_from zero (place w None) text ≡ values_from zero (with_signs w (Number z)) rest
 operand_read w text begin b x y rest z g f e r =
     let p = place w None in
-    let q = with_signs w (Some z) in
+    let q = with_signs w (Number z) in
     sym (spaces_skipped p text) ∙ ap (values_from zero p) (sym g ∙ f)
     ∙ e ∙ sym (spaces_skipped q y) ∙ ap (values_from zero q) (sym r)
 
@@ -132,13 +134,13 @@ operator_no_parenthesis b x o h =
     ne_eqb b close_parenthesis (λ e. none-some o (sym (ap (λ c. operator_at c x) e) ∙ h))
 
 -- the step at a byte after an operand, by whether it is a parenthesis and by the operator that begins with it
-abbrev operator_case : List Frame → Option ℤ → Bool → Option (Operator × ℕ) → Option (Place × ℕ)
+abbrev operator_case : List Frame → Value → Bool → Option (Operator × ℕ) → Option (Place × ℕ)
 operator_case w a t o =
     cond t (option_and_then (λ r. Some (r, 0)) (closed_place (joined_while 1 w a)))
     (option_and_then (λ p. Some (operated_place p.0 (joined_while (level_of p.0) w a), p.1)) o)
 
 -- an operator makes of the operand, joined with the open left operands, an open left operand
-pub operator_read : (w v : List Frame) (a d : Option ℤ) (o : Operator) (b k : ℕ) (x y : List ℕ)
+pub operator_read : (w v : List Frame) (a d : Value) (o : Operator) (b k : ℕ) (x y : List ℕ)
     → operator_at b x ≡ Some (o, k) → joined_while (level_of o) w a ≡ (v, d) → y ≡ drop k x
     → values_from zero (operated_place o (v, d)) y ≡ values_from zero (place w (Some a)) (b ∷ x)
 operator_read w v a d o b k x y h j e =
@@ -149,18 +151,18 @@ operator_read w v a d o b k x y h j e =
     stepped (place w (Some a)) (operated_place o (v, d)) b k x y (operator_no_space b x (o, k) h) step e
 
 -- there is no sign before the operands of a chain
-no_sign_left : (l : Option (Option ℤ × Operator)) (a : Option ℤ) → with_signs (frames_of l) a ≡ place (frames_of l) (Some a)
+no_sign_left : (l : Option (Value × Operator)) (a : Value) → with_signs (frames_of l) a ≡ place (frames_of l) (Some a)
 no_sign_left None a = refl
 no_sign_left (Some l) a = refl
 
 -- a literal of a chain leads to the place after its operand
-pub operand_left : (l : Option (Option ℤ × Operator)) (text rest : List ℕ) (z : ℤ)
-    → ((w : List Frame) → values_from zero (place w None) text ≡ values_from zero (with_signs w (Some z)) rest)
-    → values_from zero (place (frames_of l) None) text ≡ values_from zero (place (frames_of l) (Some (Some z))) rest
-operand_left l text rest z h = h (frames_of l) ∙ ap (λ p. values_from zero p rest) (no_sign_left l (Some z))
+pub operand_left : (l : Option (Value × Operator)) (text rest : List ℕ) (z : ℤ)
+    → ((w : List Frame) → values_from zero (place w None) text ≡ values_from zero (with_signs w (Number z)) rest)
+    → values_from zero (place (frames_of l) None) text ≡ values_from zero (place (frames_of l) (Some (Number z))) rest
+operand_left l text rest z h = h (frames_of l) ∙ ap (λ p. values_from zero p rest) (no_sign_left l (Number z))
 
 -- at the end the operand is joined with all open left operands
-pub chain_ended : (w : List Frame) (a v : Option ℤ) (x : List ℕ) → length x ≡ 0 → joined_while 1 w a ≡ ([], v)
+pub chain_ended : (w : List Frame) (a v : Value) (x : List ℕ) → length x ≡ 0 → joined_while 1 w a ≡ ([], v)
     → values_from zero (place w (Some a)) x ≡ Some v
 chain_ended w a v [] h j = ap alone j
 chain_ended w a v (b ∷ x) h j = absurd (omega (arith, h))

@@ -6,6 +6,8 @@ use Rattle.m4_input.specs.Ascii.{open_parenthesis, is_space}
 use Rattle.m4_eval.specs.declared.frame.Frame.{Frame}
 use Rattle.m4_eval.specs.declared.frame.Frame.TheVariants.{Opened, Prefixed}
 use Rattle.m4_eval.specs.declared.operator.Sign.{Sign}
+use Rattle.m4_eval.specs.declared.value.Value.{Value}
+use Rattle.m4_eval.specs.declared.value.Value.TheVariants.{Number}
 use Rattle.m4_eval.specs.Value.{wrapped}
 use Rattle.m4_eval.specs.ReadExpression.{literal_at, sign_at}
 use Rattle.m4_eval.specs.EvaluateSteps.{Place, with_signs, before_step, step_from, values_from}
@@ -16,17 +18,17 @@ in_bits n = (wrapped (pos n.0), n.1)
 
 -- an operand by its value
 abbrev operand_of : List Frame → Option (ℤ × ℕ) → Option (Place × ℕ)
-operand_of w o = option_and_then (λ n. Some (with_signs w (Some n.0), n.1)) o
+operand_of w o = option_and_then (λ n. Some (with_signs w (Number n.0), n.1)) o
 
 abbrev operand_case : List Frame → ℕ → List ℕ → Bool → Option Sign → Option (Place × ℕ)
 operand_case w b x t s =
     cond t (Some (record { waiting = Opened ∷ w; current = None }, 0)) (elim s [
       | Some s ↦ Some (record { waiting = Prefixed s ∷ w; current = None }, 0)
-      | None ↦ option_and_then (λ n. Some (with_signs w (Some (wrapped (pos n.0))), n.1)) (literal_at b x)
+      | None ↦ option_and_then (λ n. Some (with_signs w (Number (wrapped (pos n.0))), n.1)) (literal_at b x)
     ])
 
 in_bits_first : (w : List Frame) (o : Option (ℕ × ℕ))
-    → option_and_then (λ n. Some (with_signs w (Some (wrapped (pos n.0))), n.1)) o ≡ operand_of w (option_map in_bits o)
+    → option_and_then (λ n. Some (with_signs w (Number (wrapped (pos n.0))), n.1)) o ≡ operand_of w (option_map in_bits o)
 in_bits_first w None = refl
 in_bits_first w (Some n) = refl
 
@@ -47,7 +49,7 @@ after_token zero p x = refl
 after_token (suc k) p [] = refl
 after_token (suc k) p (b ∷ x) = after_token k p x
 
-abbrev turn : Place → ℕ → List ℕ → Bool → Option (Option ℤ)
+abbrev turn : Place → ℕ → List ℕ → Bool → Option Value
 turn p b x t =
     elim t [
       | true ↦ values_from zero p x

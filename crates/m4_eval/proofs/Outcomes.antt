@@ -1,10 +1,12 @@
 -- Outcomes: the value that is computed while a text is read is that of the definition.
 use Rattle.std.proofs.Common.{◌≡◌, ℕ, ℤ, List, Option, Some, None, option_map, refl, sym, ap, ◌∙◌, subst}
 use Rattle.m4_eval.specs.declared.evaluate.Evaluated.{Evaluated}
-use Rattle.m4_eval.specs.declared.evaluate.Evaluated.TheVariants.{Value, DivideByZero, BadExpression}
+use Rattle.m4_eval.specs.declared.evaluate.Evaluated.TheVariants as e
+use Rattle.m4_eval.specs.declared.evaluate.Evaluated.TheVariants.{DivideByZero, BadExpression}
+use Rattle.m4_eval.specs.declared.value.Value.{Value}
 use Rattle.m4_eval.specs.Expression.{Expression}
 use Rattle.m4_eval.specs.SpellsExpression.{SpellsExpression}
-use Rattle.m4_eval.specs.EvaluateSteps.{value_at}
+use Rattle.m4_eval.specs.EvaluateSteps.{number, value_at}
 use Rattle.m4_eval.specs.Evaluated.{IsEvaluated, of_value, of_expression, evaluated}
 use Rattle.m4_eval.specs.ReadExpression.{expression_at}
 use Rattle.m4_eval.specs.Value.{value}
@@ -20,8 +22,8 @@ outcome_is : (e : Option Expression) → of_expression e ≡ outcome (option_map
 outcome_is None = refl
 outcome_is (Some e) = refl
 
-pub evaluated_is : (text : List ℕ) (v : Option (Option ℤ)) → v ≡ value_at text → outcome v ≡ evaluated text
-evaluated_is text v h = ap outcome (h ∙ values_read text) ∙ sym (outcome_is (expression_at text))
+pub evaluated_is : (text : List ℕ) (v : Option Value) → v ≡ value_at text → outcome (option_map number v) ≡ evaluated text
+evaluated_is text v h = ap (λ w. outcome (option_map number w)) h ∙ ap outcome (values_read text) ∙ sym (outcome_is (expression_at text))
 
 -- by the expression that the reading finds, and by its value
 read_value : (text : List ℕ) (e : Expression) → SpellsExpression e text → (v : Option ℤ) → value e ≡ v → IsEvaluated text (of_value v)
@@ -37,7 +39,7 @@ pub spelled_as : (text : List ℕ) (v : Evaluated) → v ≡ evaluated text → 
 spelled_as text v is = subst (IsEvaluated text) (sym is) (read_as text (expression_at text) refl)
 
 valued : (text : List ℕ) (v : Evaluated) → IsEvaluated text v → v ≡ evaluated text
-valued text (Value z) h = sym (ap of_expression ((expressions_read text h.0).1 h.1) ∙ ap of_value h.2)
+valued text (e.Value z) h = sym (ap of_expression ((expressions_read text h.0).1 h.1) ∙ ap of_value h.2)
 valued text DivideByZero h = sym (ap of_expression ((expressions_read text h.0).1 h.1) ∙ ap of_value h.2)
 valued text BadExpression h = sym (ap of_expression ((others_refused text).1 h))
 

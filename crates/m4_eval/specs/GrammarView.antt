@@ -1,13 +1,15 @@
 -- GrammarView: the code's stack and value, seen as a place of the definitions.
 -- Not believed: it only connects the code with specs/EvaluateSteps.antt. Words: place, NoSign,
 -- NoneJoined, NotOpened, placed.
-use Rattle.std.specs.Prelude.{ℕ, ◌<◌, ℤ, List, [], ◌∷◌, Option, option_map, ⊤}
+use Rattle.std.specs.Prelude.{ℕ, ◌<◌, List, [], ◌∷◌, Option, option_map, ⊤}
 use Rattle.m4_eval.specs.declared.frame.Frame.{Frame}
 use Rattle.m4_eval.specs.declared.frame.Frame.TheVariants.{Opened, Prefixed, Left}
+use Rattle.m4_eval.specs.declared.grammar.Step.{Step}
+use Rattle.m4_eval.specs.declared.value.Value.{Value}
 use Rattle.m4_eval.specs.Expression.{level_of}
 use Rattle.m4_eval.specs.EvaluateSteps.{Place}
 
-abbrev pub place : List Frame → Option (Option ℤ) → Place
+abbrev pub place : List Frame → Option Value → Place
 place w v = record { waiting = w; current = v }
 
 -- the innermost frame is not a sign
@@ -31,6 +33,6 @@ NotOpened (Opened ∷ w) = ⊥
 NotOpened (Prefixed s ∷ w) = ⊤
 NotOpened (Left d o ∷ w) = ⊤
 
--- the result of a step, with the stack after it
-abbrev pub placed : List Frame → Option (Option (Option ℤ) × ℕ) → Option (Place × ℕ)
-placed w r = option_map (λ q. (place w q.0, q.1)) r
+-- what a token did, with the stack after it
+abbrev pub placed : List Frame → Option Step → Option (Place × ℕ)
+placed w r = option_map (λ s. (place w s.operand, s.more)) r

@@ -7,7 +7,7 @@ use Rattle.std.specs.Fmt.{digits}
 use Rattle.m4_eval.specs.Expression.{Expression}
 use Rattle.m4_eval.specs.SpellsExpression.{SpellsExpression}
 use Rattle.m4_eval.specs.ReadExpression.{expression_at}
-use Rattle.m4_eval.specs.EvaluateSteps.{value_at}
+use Rattle.m4_eval.specs.EvaluateSteps.{number, value_at}
 use Rattle.m4_eval.specs.Value.{value}
 use Rattle.m4_eval.specs.Literal.{AreDigitsOf}
 use Rattle.m4_eval.specs.InRadix.{padded}
@@ -32,7 +32,7 @@ RefusesOthers =
 
 -- the value computed while a text is read is that of its expression
 abbrev pub ValuesAreRead : Type 0
-ValuesAreRead = (text : List ℕ) → value_at text ≡ option_map value (expression_at text)
+ValuesAreRead = (text : List ℕ) → option_map number (value_at text) ≡ option_map value (expression_at text)
 
 -- the digits that are written spell the absolute value, also with zeros before them
 abbrev pub DigitsAreRead : Type 0

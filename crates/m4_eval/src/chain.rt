@@ -3,6 +3,7 @@
 
 ghost use Rattle.std.specs.Prelude.{◌≡◌, ◌<◌, ◌≤◌, ◌∷◌, drop, zero, List, [], IfSome, Some, None, length};
 ghost use Rattle.m4_eval.specs.declared.frame.Frame.{Frame};
+ghost use Rattle.m4_eval.specs.declared.value.Value.TheVariants.{Number};
 ghost use Rattle.m4_eval.specs.EvaluateSteps.{with_signs, joined_while, values_from, value_at};
 ghost use Rattle.m4_eval.specs.GrammarView.{place};
 ghost use Rattle.m4_input.specs.Ascii as ascii;
@@ -13,23 +14,23 @@ ghost use Rattle.m4_eval.specs.ChainView.{frames_of};
 use crate::blank::is_space;
 use crate::lexer::{decimal, operator};
 use crate::operator::{Operator, Sign};
-use crate::value::{apply_sign, join, level};
+use crate::value::{Value, apply_sign, join, level};
 
 /// Returns the value of a chain: decimal literals, perhaps negative, with operators between them, none of
 /// which binds tighter than the one before it. Returns nothing for any other text, which is then read with
 /// a stack.
-pub(crate) fn chain_value(text: &[u8]) -> Option<Option<i32>>
+pub(crate) fn chain_value(text: &[u8]) -> Option<Value>
     ensures { IfSome result (λ v. value_at text.now ≡ Some v) }
 {
     let mut left = None;
     let mut rest = text;
     while !rest.is_empty() {
-        let (value, after) = next_operand(rest)?;
+        let (number, after) = next_operand(rest)?;
         let Some((byte, more)) = after.split_first() else {
-            return join_left(left, 1, value);
+            return join_left(left, 1, number);
         };
         let (next, len) = operator(*byte, more)?;
-        left = Some((join_left(left, level(next), value)?, next));
+        left = Some((join_left(left, level(next), number)?, next));
         rest = more.split_at(len).1;
     }
     None
@@ -38,16 +39,16 @@ pub(crate) fn chain_value(text: &[u8]) -> Option<Option<i32>>
 /// Joins an operand with the open left operand, if there is one. Returns nothing if that one's operator
 /// binds less tightly than a level.
 #[inline(always)]
-fn join_left(left: Option<(Option<i32>, Operator)>, least: u8, value: i32) -> Option<Option<i32>>
-    ensures { IfSome result (λ v. joined_while least (frames_of left) (Some value) ≡ ([], v)) }
+fn join_left(left: Option<(Value, Operator)>, least: u8, number: i32) -> Option<Value>
+    ensures { IfSome result (λ v. joined_while least (frames_of left) (Number number) ≡ ([], v)) }
 {
     let Some((operand, operator)) = left else {
-        return Some(Some(value));
+        return Some(Value::Number(number));
     };
     if level(operator) < least {
         return None;
     }
-    Some(join(operator, operand, Some(value)))
+    Some(join(operator, operand, Value::Number(number)))
 }
 
 /// Reads a literal, perhaps with a minus before it, and the white space around it. Returns its value, and
@@ -55,7 +56,7 @@ fn join_left(left: Option<(Option<i32>, Operator)>, least: u8, value: i32) -> Op
 #[inline(always)]
 fn next_operand(text: &[u8]) -> Option<(i32, &[u8])>
     ensures value { IfSome result (λ r. (w : List Frame)
-        → values_from zero (place w None) text.now ≡ values_from zero (with_signs w (Some r.0)) r.1.now) }
+        → values_from zero (place w None) text.now ≡ values_from zero (with_signs w (Number r.0)) r.1.now) }
     ensures fewer { IfSome result (λ r. length r.1.now < length text.now) }
 {
     let (byte, after) = without_spaces(text).split_first()?;
@@ -68,7 +69,7 @@ fn next_operand(text: &[u8]) -> Option<(i32, &[u8])>
 #[inline(always)]
 fn split_operand(byte: u8, after: &[u8]) -> Option<(i32, &[u8])>
     ensures value { IfSome result (λ r. (w : List Frame)
-        → values_from zero (place w None) (byte ∷ after.now) ≡ values_from zero (with_signs w (Some r.0)) r.1.now) }
+        → values_from zero (place w None) (byte ∷ after.now) ≡ values_from zero (with_signs w (Number r.0)) r.1.now) }
     ensures within { IfSome result (λ r. length r.1.now ≤ length after.now) }
 {
     if byte == b'-' {
@@ -81,7 +82,7 @@ fn split_operand(byte: u8, after: &[u8]) -> Option<(i32, &[u8])>
 /// Reads the literal after a minus. Returns the value of both, and the text after them.
 fn split_negative(text: &[u8]) -> Option<(i32, &[u8])>
     ensures value { IfSome result (λ r. (w : List Frame)
-        → values_from zero (place w None) (45 ∷ text.now) ≡ values_from zero (with_signs w (Some r.0)) r.1.now) }
+        → values_from zero (place w None) (45 ∷ text.now) ≡ values_from zero (with_signs w (Number r.0)) r.1.now) }
     ensures within { IfSome result (λ r. length r.1.now ≤ length text.now) }
 {
     let (byte, after) = text.split_first()?;
@@ -94,7 +95,7 @@ fn split_negative(text: &[u8]) -> Option<(i32, &[u8])>
 #[inline(always)]
 fn split_literal(byte: u8, after: &[u8]) -> Option<(i32, &[u8])>
     ensures value { IfSome result (λ r. (w : List Frame)
-        → values_from zero (place w None) (byte ∷ after.now) ≡ values_from zero (with_signs w (Some r.0)) r.1.now) }
+        → values_from zero (place w None) (byte ∷ after.now) ≡ values_from zero (with_signs w (Number r.0)) r.1.now) }
     ensures within { IfSome result (λ r. length r.1.now ≤ length after.now) }
 {
     match byte {

@@ -5,6 +5,7 @@ ghost use Rattle.std.specs.Prelude.{◌≡◌, IfOk};
 ghost use Rattle.m4_eval.specs.Evaluated as spec;
 
 use crate::grammar::value_of;
+use crate::value::Value;
 use std::alloc::{AllocError, Global};
 
 /// The value of a text, or why it has none.
@@ -30,7 +31,7 @@ pub fn evaluate(alloc: Global, text: &[u8]) -> Result<Evaluated, AllocError>
 {
     match value_of(alloc, text)? {
         None => Ok(Evaluated::BadExpression),
-        Some(None) => Ok(Evaluated::DivideByZero),
-        Some(Some(value)) => Ok(Evaluated::Value(value)),
+        Some(Value::DividedByZero) => Ok(Evaluated::DivideByZero),
+        Some(Value::Number(number)) => Ok(Evaluated::Value(number)),
     }
 }

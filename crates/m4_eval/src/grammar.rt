@@ -1,8 +1,6 @@
 //! The value of an expression's text. The text is read byte by byte, with its open parts on a stack:
 //! the code does not recurse with the nesting of the text.
 //!
-//! An operand is an `Option<i32>`: `None` if a zero divides in it. The step at a byte returns the operand
-//! that it completes, if any, and how many more bytes it reads.
 //! Manual: "Evaluating integer expressions".
 
 ghost use Rattle.std.specs.Prelude.{◌≡◌, ◌∷◌, ◌≤◌, ◌<◌, ◌≢◌, reverse, IfSome, IfNone, OnOk, IfOk, Some, None, length};
@@ -17,8 +15,17 @@ use crate::chain::chain_value;
 use crate::frame::Frame;
 use crate::lexer::{literal, operator, sign};
 use crate::operator::{Operator, Sign};
-use crate::value::{apply_sign, join, level};
+use crate::value::{Value, join, level, signed};
 use std::alloc::{AllocError, Global};
+
+/// What a token did.
+#[derive(Clone, Copy)]
+pub struct Step {
+    /// The operand that it completed, if any.
+    pub operand: Option<Value>,
+    /// How many of its bytes follow the first one.
+    pub more: usize,
+}
 
 /// Removes the innermost frame if it is a sign.
 fn pop_sign(waiting: &mut Vec<Frame>) -> Option<Sign>
@@ -36,7 +43,7 @@ fn pop_sign(waiting: &mut Vec<Frame>) -> Option<Sign>
 
 /// Removes the innermost frame if it is a left operand whose operator binds at least as tightly as a
 /// level.
-fn pop_left(waiting: &mut Vec<Frame>, least: u8) -> Option<(Option<i32>, Operator)>
+fn pop_left(waiting: &mut Vec<Frame>, least: u8) -> Option<(Value, Operator)>
     ensures some { IfSome result (λ p. reverse waiting.old.items ≡ Left p.0 p.1 ∷ reverse waiting.new.items) }
     ensures tight { IfSome result (λ p. least ≤ level_of p.1) }
     ensures none { IfNone result (waiting.new.items ≡ waiting.old.items) }
@@ -54,21 +61,18 @@ fn pop_left(waiting: &mut Vec<Frame>, least: u8) -> Option<(Option<i32>, Operato
 }
 
 /// Applies the open signs to an operand, and removes them.
-fn complete(waiting: &mut Vec<Frame>, operand: Option<i32>) -> Option<i32>
+fn complete(waiting: &mut Vec<Frame>, operand: Value) -> Value
     ensures { place (reverse waiting.new.items) (Some result) ≡ with_signs (reverse waiting.old.items) operand }
 {
     let mut value = operand;
     while let Some(sign) = pop_sign(waiting) {
-        value = match value {
-            Some(v) => Some(apply_sign(sign, v)),
-            None => None,
-        };
+        value = signed(sign, value);
     }
     value
 }
 
 /// Joins an operand with the open left operands whose operators bind at least as tightly as a level.
-fn join_while(waiting: &mut Vec<Frame>, least: u8, operand: Option<i32>) -> Option<i32>
+fn join_while(waiting: &mut Vec<Frame>, least: u8, operand: Value) -> Value
     ensures { (reverse waiting.new.items, result) ≡ joined_while least (reverse waiting.old.items) operand }
 {
     let mut value = operand;
@@ -95,21 +99,30 @@ fn read_operand(
     waiting: &mut Vec<Frame>,
     byte: u8,
     after: &[u8],
-) -> Result<Option<(Option<Option<i32>>, usize)>, AllocError>
+) -> Result<Option<Step>, AllocError>
     ensures step { IfOk result (λ r. placed (reverse waiting.new.items) r
         ≡ before_step (reverse waiting.old.items) byte after.now) }
-    ensures within { IfOk result (λ r. IfSome r (λ q. q.1 ≤ length after.now)) }
+    ensures within { IfOk result (λ r. IfSome r (λ s. s.more ≤ length after.now)) }
 {
     if byte == b'(' {
         waiting.push(Frame::Opened)?;
-        return Ok(Some((None, 0)));
+        return Ok(Some(Step {
+            operand: None,
+            more: 0,
+        }));
     }
     if let Some(sign) = sign(byte) {
         waiting.push(Frame::Prefixed(sign))?;
-        return Ok(Some((None, 0)));
+        return Ok(Some(Step {
+            operand: None,
+            more: 0,
+        }));
     }
     match literal(byte, after) {
-        Some((value, more)) => Ok(Some((Some(complete(waiting, Some(value))), more))),
+        Some((number, more)) => {
+            let operand = Some(complete(waiting, Value::Number(number)));
+            Ok(Some(Step { operand, more }))
+        }
         None => Ok(None),
     }
 }
@@ -117,72 +130,76 @@ fn read_operand(
 /// Reads a byte after an operand. Returns nothing if it is neither an operator nor a closing `)`.
 fn read_operator(
     waiting: &mut Vec<Frame>,
-    value: Option<i32>,
+    operand: Value,
     byte: u8,
     after: &[u8],
-) -> Result<Option<(Option<Option<i32>>, usize)>, AllocError>
+) -> Result<Option<Step>, AllocError>
     ensures step { IfOk result (λ r. placed (reverse waiting.new.items) r
-        ≡ after_step (reverse waiting.old.items) value byte after.now) }
-    ensures within { IfOk result (λ r. IfSome r (λ q. q.1 ≤ length after.now)) }
+        ≡ after_step (reverse waiting.old.items) operand byte after.now) }
+    ensures within { IfOk result (λ r. IfSome r (λ s. s.more ≤ length after.now)) }
 {
     if byte == b')' {
-        let inner = join_while(waiting, 1, value);
+        let inner = join_while(waiting, 1, operand);
         if !pop_opened(waiting) {
             return Ok(None);
         }
-        return Ok(Some((Some(complete(waiting, inner)), 0)));
+        let operand = Some(complete(waiting, inner));
+        return Ok(Some(Step { operand, more: 0 }));
     }
     match operator(byte, after) {
         Some((operator, more)) => {
-            let left = join_while(waiting, level(operator), value);
+            let left = join_while(waiting, level(operator), operand);
             waiting.push(Frame::Left(left, operator))?;
-            Ok(Some((None, more)))
+            Ok(Some(Step {
+                operand: None,
+                more,
+            }))
         }
         None => Ok(None),
     }
 }
 
-/// Reads a byte that is not white space, before or after an operand.
+/// Reads a byte that is not white space: after an operand, if there is one.
 fn read_token(
     waiting: &mut Vec<Frame>,
-    current: Option<Option<i32>>,
+    operand: Option<Value>,
     byte: u8,
     after: &[u8],
-) -> Result<Option<(Option<Option<i32>>, usize)>, AllocError>
+) -> Result<Option<Step>, AllocError>
     ensures step { IfOk result (λ r. placed (reverse waiting.new.items) r
-        ≡ step_from current (reverse waiting.old.items) byte after.now) }
-    ensures within { IfOk result (λ r. IfSome r (λ q. q.1 ≤ length after.now)) }
+        ≡ step_from operand (reverse waiting.old.items) byte after.now) }
+    ensures within { IfOk result (λ r. IfSome r (λ s. s.more ≤ length after.now)) }
 {
-    match current {
+    match operand {
         None => read_operand(waiting, byte, after),
         Some(value) => read_operator(waiting, value, byte, after),
     }
 }
 
-/// Returns the value of a text: nothing if it is not an expression, and no value if a zero divides.
+/// Returns the value of a text, or nothing if it is not an expression.
 ///
 /// Fails only if an allocation fails. The time is proportional to the text.
-pub(crate) fn value_of(alloc: Global, text: &[u8]) -> Result<Option<Option<i32>>, AllocError>
+pub(crate) fn value_of(alloc: Global, text: &[u8]) -> Result<Option<Value>, AllocError>
     ensures value { IfOk result (λ v. v ≡ value_at text.now) }
 {
     if let Some(value) = chain_value(text) {
         return Ok(Some(value));
     }
     let mut waiting = Vec::new(alloc);
-    let mut current = None;
+    let mut operand = None;
     let mut rest = text;
     while let Some((byte, after)) = rest.split_first() {
         if is_space(*byte) {
             rest = after;
             continue;
         }
-        let Some((next, more)) = read_token(&mut waiting, current, *byte, after)? else {
+        let Some(step) = read_token(&mut waiting, operand, *byte, after)? else {
             return Ok(None);
         };
-        current = next;
-        rest = after.split_at(more).1;
+        operand = step.operand;
+        rest = after.split_at(step.more).1;
     }
-    let Some(last) = current else {
+    let Some(last) = operand else {
         return Ok(None);
     };
     let value = join_while(&mut waiting, 1, last);

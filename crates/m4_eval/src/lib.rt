@@ -10,9 +10,7 @@ pub mod blank;
 mod chain;
 pub mod digits;
 pub mod evaluate;
-// It is public for the auxiliary definitions, which use it too.
-#[doc(hidden)]
-pub mod frame;
+mod frame;
 mod grammar;
 pub mod laws;
 mod lexer;
