@@ -9,7 +9,19 @@ use Rattle.m4_input.specs.Input.{Held}
 use Rattle.m4_engine.specs.declared.lookahead.Lookahead.{Lookahead}
 use Rattle.m4_engine.specs.declared.lookahead.Lookahead.TheVariants as aheads
 use Rattle.m4_engine.specs.Lookahead.{IsAhead, IsLookaheadOf}
+use Rattle.m4_engine.specs.declared.token_sink.Taken.{Taken}
+use Rattle.m4_engine.specs.declared.token_sink.Taken.TheVariants as takens
 use Rattle.m4_engine.specs.Engine.{Engine, put_in}
+
+-- P is so of the end, if a sink took a token
+abbrev pub IfUpTo : Taken → (ℕ → Type 0) → Type 0
+IfUpTo (takens.UpTo end) P = P end
+IfUpTo (takens.Left token) P = Unit {0}
+
+-- P is so of the token, if a sink left it
+abbrev pub IfLeft : Taken → (Lookahead → Type 0) → Type 0
+IfLeft (takens.UpTo end) P = Unit {0}
+IfLeft (takens.Left token) P = P token
 
 -- outside of calls, with no definition before the text: its first tokens, which are plain text, were added where text
 -- goes: to the output, to a diversion, or nowhere

@@ -10,7 +10,7 @@ ghost use Rattle.m4_engine.specs.declared.role.Role.TheVariants.{Blank, Other};
 use crate::call::OpenCall;
 use crate::lookahead::Lookahead;
 use crate::role::Role;
-use crate::token_sink::TokenSink;
+use crate::token_sink::{Taken, TokenSink};
 use m4_input::delims::Delims;
 use std::alloc::AllocError;
 
@@ -24,29 +24,29 @@ impl TokenSink for OpenCall {
         text: &[u8],
         at: usize,
         delims: &Delims<'_>,
-    ) -> Result<Result<usize, Lookahead>, AllocError> {
+    ) -> Result<Taken, AllocError> {
         let (_, text) = text.split_at(at);
         let byte = match token {
             Lookahead::Byte(byte) => byte,
             Lookahead::Text(begin, end, all) => {
                 self.put_front(text.split_at(begin).1, end - begin)?;
-                return Ok(Ok(at + all));
+                return Ok(Taken::UpTo(at + all));
             }
-            token => return Ok(Err(token)),
+            token => return Ok(Taken::Left(token)),
         };
         let (_, rest) = text.split_at(1);
         if self.role(byte) == Role::Other {
             let len = 1 + text_len(rest, delims);
             self.put_front(text, len)?;
-            return Ok(Ok(at + len));
+            return Ok(Taken::UpTo(at + len));
         }
         if let Some(_left) = self.take_byte(byte)? {
-            return Ok(Err(Lookahead::Byte(byte)));
+            return Ok(Taken::Left(Lookahead::Byte(byte)));
         }
         if self.has_begun() {
-            return Ok(Ok(at + 1));
+            return Ok(Taken::UpTo(at + 1));
         }
-        Ok(Ok(at + (1 + spaces_len(rest, delims))))
+        Ok(Taken::UpTo(at + (1 + spaces_len(rest, delims))))
     }
 
     ghost none = { λ s m c x. ([], refl, refl) };

@@ -8,7 +8,7 @@ ghost use Rattle.m4_engine.specs.Plain.{IsPlainRun};
 
 use crate::lookahead::Lookahead;
 use crate::machine::OUTPUT_BLOCK;
-use crate::token_sink::TokenSink;
+use crate::token_sink::{Taken, TokenSink};
 use m4_input::delims::Delims;
 use std::alloc::AllocError;
 
@@ -26,13 +26,13 @@ impl TokenSink for Outside {
         text: &[u8],
         at: usize,
         delims: &Delims<'_>,
-    ) -> Result<Result<usize, Lookahead>, AllocError> {
+    ) -> Result<Taken, AllocError> {
         match token {
             Lookahead::Text(0, end, all) if end == all && at < OUTPUT_BLOCK => {
-                Ok(Ok(with_space(text, at + all, delims)))
+                Ok(Taken::UpTo(with_space(text, at + all, delims)))
             }
-            Lookahead::Byte(_) if at < OUTPUT_BLOCK => Ok(Ok(at + 1)),
-            token => Ok(Err(token)),
+            Lookahead::Byte(_) if at < OUTPUT_BLOCK => Ok(Taken::UpTo(at + 1)),
+            token => Ok(Taken::Left(token)),
         }
     }
 

@@ -2,10 +2,11 @@
 //! One loop takes them, many at once and each looked at once. Manual: "How m4 copies input to output", "Macro
 //! arguments".
 
-ghost use Rattle.std.specs.Prelude.{◌≡◌, ◌<◌, ◌≤◌, ℕ, Bool, List, IfOk, IfErr, length, drop};
+ghost use Rattle.std.specs.Prelude.{◌≡◌, ◌<◌, ◌≤◌, ℕ, Bool, List, IfOk, length, drop};
 ghost use Rattle.m4_state.specs.State.{State as Specified};
 ghost use Rattle.m4_engine.specs.Expansion.{Call};
 ghost use Rattle.m4_engine.specs.Lookahead.{IsAhead};
+ghost use Rattle.m4_engine.specs.Passes.{IfUpTo, IfLeft};
 
 use crate::call::OpenCall;
 use crate::lookahead::Lookahead;
@@ -14,6 +15,15 @@ use m4_input::look::{delimited_token, look_by_kind, plain_token};
 use m4_state::state::State;
 use std::alloc::AllocError;
 
+/// What a sink did with a token.
+#[derive(Clone, Copy)]
+pub enum Taken {
+    /// It took the token, and perhaps bytes after it: where in the text they end.
+    UpTo(usize),
+    /// It left the token, and did nothing.
+    Left(Lookahead),
+}
+
 /// Where tokens of a text go that call nothing.
 pub trait TokenSink {
     /// The first tokens of a text, which have so many bytes, change the sink from one value to another, and do nothing
@@ -21,22 +31,21 @@ pub trait TokenSink {
     ghost takes: { Specified → Bool → ℕ → Self → Self → List ℕ → Type 0 };
 
     /// Takes the token at a place in a text, if it changes the sink alone, and bytes after it that need no look.
-    /// Returns the end of what it took, or the token that it left.
     fn take(
         &mut self,
         token: Lookahead,
         text: &[u8],
         at: usize,
         delims: &Delims<'_>,
-    ) -> Result<Result<usize, Lookahead>, AllocError>
+    ) -> Result<Taken, AllocError>
         requires at { at ≤ length text.now }
         requires token { (s : Specified) × (next : Call) × (m : Bool) × IsAhead token next s m (drop at text.now) }
-        ensures takes { IfOk result (λ r. IfOk r (λ end. (s : Specified) (next : Call) (m : Bool) (before : Self)
+        ensures takes { IfOk result (λ r. IfUpTo r (λ end. (s : Specified) (next : Call) (m : Bool) (before : Self)
             → delims.now.quotes.now ≡ s.quotes → delims.now.comments.now ≡ s.comments
             → IsAhead token next s m (drop at text.now) → takes s m at before self.old text.now
             → takes s m end before self.new text.now)) }
-        ensures within { IfOk result (λ r. IfOk r (λ end. (at < end) × (end ≤ length text.now))) }
-        ensures left { IfOk result (λ r. IfErr r (λ left. (left ≡ token) × (self.new ≡ self.old))) };
+        ensures within { IfOk result (λ r. IfUpTo r (λ end. (at < end) × (end ≤ length text.now))) }
+        ensures left { IfOk result (λ r. IfLeft r (λ left. (left ≡ token) × (self.new ≡ self.old))) };
 
     /// With no token nothing changes.
     ghost none: { (s : Specified) (m : Bool) (c : Self) (x : List ℕ) → takes s m 0 c c x };
@@ -65,23 +74,23 @@ pub fn pass_tokens<K: TokenSink>(
         if let Some(look) = plain_token(rest, &delims, more) {
             let token = Lookahead::of(look, rest, state, &delims, next, more)?;
             match sink.take(token, text, len, &delims)? {
-                Ok(end) => len = end,
-                Err(left) => return Ok((len, left)),
+                Taken::UpTo(end) => len = end,
+                Taken::Left(left) => return Ok((len, left)),
             }
             continue 'tokens;
         }
         if let Some(look) = delimited_token(rest, &delims, more) {
             let token = Lookahead::of(look, rest, state, &delims, next, more)?;
             match sink.take(token, text, len, &delims)? {
-                Ok(end) => len = end,
-                Err(left) => return Ok((len, left)),
+                Taken::UpTo(end) => len = end,
+                Taken::Left(left) => return Ok((len, left)),
             }
             continue 'tokens;
         }
         let token = rare_token(rest, state, next, more)?;
         match sink.take(token, text, len, &delims)? {
-            Ok(end) => len = end,
-            Err(left) => return Ok((len, left)),
+            Taken::UpTo(end) => len = end,
+            Taken::Left(left) => return Ok((len, left)),
         }
     }
 }
