@@ -1,5 +1,5 @@
 -- Acts: what a call leaves is what the definitions' move leaves.
-use Rattle.std.proofs.Common.{◌≡◌, Bool, true, false, Some, None, ◌++◌, length, ℕ, List, [], ◌∷◌, refl, sym, ap, ◌∙◌, subst}
+use Rattle.std.proofs.Common.{◌≡◌, Bool, true, false, Some, None, ◌++◌, length, ℕ, List, [], ◌∷◌, refl, sym, ap, ◌∙◌}
 use Rattle.std.proofs.Common.{append-nil, append_assoc}
 use Rattle.m4_state.specs.State.{State}
 use Rattle.m4_input.specs.Pending.{Pending, text_of, line_length}
@@ -21,7 +21,7 @@ use Rattle.m4_engine.specs.Expansion.{Call, Limits, Expansion, Kept, Ended, read
 use Rattle.m4_engine.specs.Expand.{turn, join, effected, skip_line, with_saved, with_value, with_acted}
 use Rattle.m4_engine.specs.Expand.{take_other}
 use Rattle.m4_engine.specs.Engine.{Engine, so_far_of, mode_of, kept_in, outer_of, here_of, configuration, begun_in}
-use Rattle.m4_engine.specs.Engine.{with_made, ending_in, ending_argument, with_open_call, put_in}
+use Rattle.m4_engine.specs.Engine.{with_made, ending_in, ending_argument, with_open_call}
 use Rattle.m4_engine.specs.Engine.{IsReady}
 use Rattle.m4_engine.specs.Turns.{called_within, close_in, step, moved, Makes, IsMade, StaysBy, Steps, StepsBy, IsTurned}
 use Rattle.m4_engine.specs.Turns.{Turns, MayFollow, Moving, Extended, line_move, Moves}
@@ -221,20 +221,18 @@ closed_by cs d ds b s i h n =
     ∙ ap (λ (k : ℕ). take_closing k b d s) n
     ∙ sym (ap (λ (x : List Call). close_in x s) i)
 
-pub closing_byte : (e old e1 : Engine) (i j : Held) (r : Result Turned TurnFault) (d : Call) (ds : List Call) (b : ℕ) → old ≡ e
+pub closing_byte : (e e1 : Engine) (i j : Held) (r : Result Turned TurnFault) (d : Call) (ds : List Call) (b : ℕ)
     → e.open_calls ≡ d ∷ ds → role_of b d ≡ Closing → d.parentheses ≡ 0
-    → StepsBy r old e1 i j (λ s. step (outer_of old.open_calls) (close_in old.open_calls s))
+    → StepsBy r e e1 i j (λ s. step (outer_of e.open_calls) (close_in e.open_calls s))
     → StepsBy r e e1 i j (λ s. step (outer_of e.open_calls) (take_other (mode_of e.open_calls) b s))
-closing_byte e old e1 i j r d ds b g h k n s =
-    let t = subst (λ (x : Engine). StepsBy r x e1 i j (λ s. step (outer_of x.open_calls) (close_in x.open_calls s))) g s in
-    record {
-      moves = result_by (i.pending).may_follow e1 j.pending r _ _
-          (λ z more u o m. ap (λ (v : Turn Expansion Kept Ended). step (outer_of e.open_calls) v)
-          (closed_by e.open_calls d ds b (here_of o m e (longer z more i.pending)) h k n)) t.moves;
-      ready = t.ready;
-      limits = t.limits;
-      made = t.made;
-    }
+closing_byte e e1 i j r d ds b h k n s = record {
+  moves = result_by (i.pending).may_follow e1 j.pending r _ _
+      (λ z more u o m. ap (λ (v : Turn Expansion Kept Ended). step (outer_of e.open_calls) v)
+      (closed_by e.open_calls d ds b (here_of o m e (longer z more i.pending)) h k n)) s.moves;
+  ready = s.ready;
+  limits = s.limits;
+  made = s.made;
+}
 
 -- an argument ends, and leaves its call the innermost
 pub ending_opens : (e : Engine) → e.open_calls ≢ []
@@ -289,7 +287,3 @@ pub turned_makes : (e e1 : Engine) (i : Held) (r : Result Turned TurnFault) → 
     → Turns r e e1 i i
 turned_makes e e1 i (Ok t) r h m = record { moves = h; ready = stays_same i t r; limits = m.limits; made = made_turn e e1 i i t m.made }
 turned_makes e e1 i (Err x) r h m = record { moves = tt; ready = tt; limits = tt; made = tt }
-
-pub text_limits : (cs : List Call) (x : List ℕ) (e : Engine) → (put_in cs x e).limits ≡ e.limits
-text_limits [] x e = refl
-text_limits (c ∷ cs) x e = refl

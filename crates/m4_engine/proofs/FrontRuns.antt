@@ -16,8 +16,10 @@ use Rattle.m4_input.specs.Paren.{paren_in}
 use Rattle.m4_input.specs.Input.{answer_of}
 use Rattle.m4_input.proofs.OpenEnd.{scan_stays, scan_fits, paren_in_stays}
 use Rattle.m4_engine.specs.Expansion.{Call}
-use Rattle.m4_engine.specs.Plain.{IsPlain, ArePlain, IsPlainRun}
-use Rattle.m4_engine.specs.Lookahead.{IsExpansion, IsCalled, IsNamed, IsAhead, IsLookaheadOf}
+use Rattle.m4_engine.specs.Plain.{IsPut, IsPlain, ArePlain, IsPlainRun}
+use Rattle.m4_engine.specs.Lookahead.{IsExpansion, IsCalled, IsNamed, IsAhead, IsEndIn, IsNext, IsLookaheadOf}
+use Rattle.m4_engine.specs.declared.role.ListEnd.{ListEnd}
+use Rattle.m4_engine.specs.declared.role.ListEnd.TheVariants as ends
 use Rattle.m4_engine.specs.declared.lookahead.Lookahead.{Lookahead}
 use Rattle.m4_engine.specs.declared.lookahead.Lookahead.TheVariants as aheads
 use Rattle.m4_input.proofs.Parts.{drop_parts}
@@ -62,6 +64,10 @@ text_on s more n t x z (inr (inr g)) = inr (inr (found_on s.quotes s.comments mo
 plain_fits : (s : State) (n : ℕ) (x : List ℕ) → IsPlain s true n x → n ≤ length x
 plain_fits s n x (inl g) = text_fits s n (take n x) x g
 plain_fits s n x (inr g) = scan_fits s.quotes s.comments x (Byte g.0) n g.1
+
+put_on : (s : State) (more : Bool) (n : ℕ) (t x z : List ℕ) → IsPut s true n t x → IsPut s more n t (x ++ z)
+put_on s more n t x z (inl g) = inl (text_on s more n t x z g)
+put_on s more n t x z (inr g) = inr (g.0, found_on s.quotes s.comments more x z (Byte g.0) n g.1, g.2)
 
 one_plain_on : (s : State) (more : Bool) (n : ℕ) (x z : List ℕ) → IsPlain s true n x → IsPlain s more n (x ++ z)
 one_plain_on s more n x z (inl g) =
@@ -111,31 +117,14 @@ named_on s more n listed x z h =
       list = ap (paren_in s.quotes s.comments more) (drop-append-le n x z h.within) ∙ paren_on s.quotes s.comments more (drop n x) z listed h.list;
     }
 
--- a part of a text is there also if bytes come after it
-pub part_on : (begin end : ℕ) (x z : List ℕ) → begin ≤ end → end ≤ length x → take (end - begin) (drop begin (x ++ z)) ≡ take (end - begin) (drop begin x)
-part_on begin end x z b e =
-    let rest : length (drop begin x) ≡ length x - begin = length-drop begin x in
-    ap (take (end - begin)) (drop-append-le begin x z (omega (arith, b, e)))
-    ∙ take-append-le (end - begin) (drop begin x) z (omega (arith, b, e, rest))
-
 -- the name has the same bytes
 same_name : (P : List ℕ → Type 0) (n : ℕ) (x z : List ℕ) → n ≤ length x → P (take n x) → P (take n (x ++ z))
 same_name P n x z k h = subst P (sym (take-append-le n x z k)) h
 
 ahead_on : (s : State) (more : Bool) (a : Lookahead) (c : Call) (x z : List ℕ) → (a ≡ aheads.Undecided → ⊥) → IsAhead a c s true x → IsAhead a c s more (x ++ z)
 ahead_on s more aheads.Definition c x z u h = absurd h
-ahead_on s more (aheads.Text begin end n) c x z u h =
-    let all : length (x ++ z) ≡ length x + length z = length-append x z in
-    let last : end ≤ length x = h.2 in
-    let fits : n ≤ length x = h.3 in (
-      subst (λ (y : List ℕ). IsText s more n y (x ++ z)) (sym (part_on begin end x z h.1 h.2)) (text_on s more n (take (end - begin) (drop begin x)) x z h.0),
-      h.1,
-      omega (arith, all, last),
-      omega (arith, all, fits),
-    )
-ahead_on s more (aheads.Byte b) c x z u h =
-    let all : length (x ++ z) ≡ length x + length z = length-append x z in
-    (found_on s.quotes s.comments more x z (Byte b) 1 h.0, omega (arith, all, h.1))
+ahead_on s more aheads.EndsArgument c x z u h = absurd h
+ahead_on s more aheads.ClosesList c x z u h = absurd h
 ahead_on s more (aheads.Expansion n) c x z u h =
     (named_on s more n false x z h.0, same_name (IsExpansion c s) n x z (h.0).within h.1)
 ahead_on s more (aheads.LineSkip n) c x z u h =
@@ -147,7 +136,37 @@ ahead_on s more (aheads.List n) c x z u h =
 ahead_on s more aheads.End c x z u h = found_on s.quotes s.comments more x z End 0 h
 ahead_on s more (aheads.Unended what) c x z u h = decided_on s.quotes s.comments more x z (Broken what) (λ e. cc) h
 ahead_on s more aheads.Undecided c x z u h = absurd (u refl)
-ahead_on s more aheads.Further c x z u h = absurd h
+
+end_on : (s : State) (more : Bool) (end : ListEnd) (cs : List Call) (x z : List ℕ) → IsEndIn end cs s true x → IsEndIn end cs s more (x ++ z)
+end_on s more end [] x z h = absurd h
+end_on s more end (d ∷ ds) x z h =
+    record { byte = h.byte; scanned = found_on s.quotes s.comments more x z (Byte h.byte) 1 h.scanned; ends = h.ends }
+
+next_on : (s : State) (more : Bool) (a : Lookahead) (cs : List Call) (c : Call) (x z : List ℕ) → (a ≡ aheads.Undecided → ⊥)
+    → IsNext a cs c s true x → IsNext a cs c s more (x ++ z)
+next_on s more aheads.Definition cs c x z u h = absurd h
+next_on s more aheads.EndsArgument cs c x z u h = end_on s more ends.Argument cs x z h
+next_on s more aheads.ClosesList cs c x z u h = end_on s more ends.List cs x z h
+next_on s more (aheads.Expansion n) cs c x z u h = ahead_on s more (aheads.Expansion n) c x z u h
+next_on s more (aheads.LineSkip n) cs c x z u h = ahead_on s more (aheads.LineSkip n) c x z u h
+next_on s more (aheads.Call n) cs c x z u h = ahead_on s more (aheads.Call n) c x z u h
+next_on s more (aheads.List n) cs c x z u h = ahead_on s more (aheads.List n) c x z u h
+next_on s more aheads.End cs c x z u h = ahead_on s more aheads.End c x z u h
+next_on s more (aheads.Unended what) cs c x z u h = ahead_on s more (aheads.Unended what) c x z u h
+next_on s more aheads.Undecided cs c x z u h = absurd (u refl)
+
+-- what is right in any list is so in these
+pub ahead_next : (a : Lookahead) (cs : List Call) (c : Call) (s : State) (m : Bool) (x : List ℕ) → IsAhead a c s m x → IsNext a cs c s m x
+ahead_next aheads.Definition cs c s m x h = absurd h
+ahead_next aheads.EndsArgument cs c s m x h = absurd h
+ahead_next aheads.ClosesList cs c s m x h = absurd h
+ahead_next (aheads.Expansion n) cs c s m x h = h
+ahead_next (aheads.LineSkip n) cs c s m x h = h
+ahead_next (aheads.Call n) cs c s m x h = h
+ahead_next (aheads.List n) cs c s m x h = h
+ahead_next aheads.End cs c s m x h = h
+ahead_next (aheads.Unended what) cs c s m x h = h
+ahead_next aheads.Undecided cs c s m x h = h
 
 -- the bytes after those at the front
 pub record After (p : Pending) (x : List ℕ) (m : Bool) : Type 0 where
@@ -175,42 +194,30 @@ list_front s p m n c d x h r =
     subst (λ (y : List ℕ). IsListRun s p.may_follow n c d y) (sym a.all) (list_run_on s m p.may_follow n c d x a.rest a.follows r)
 
 -- a token that is found after the first bytes of the front
-pub text_after : (s : State) (p : Pending) (m : Bool) (n : ℕ) (x t : List ℕ) (l : ℕ) → IsInFront p x m → n ≤ length x
-    → IsText s m l t (drop n x) → IsText s p.may_follow l t (drop n (text_of p))
-text_after s p m n x t l h k g =
+pub put_after : (s : State) (p : Pending) (m : Bool) (n : ℕ) (x t : List ℕ) (l : ℕ) → IsInFront p x m → n ≤ length x
+    → IsPut s m l t (drop n x) → IsPut s p.may_follow l t (drop n (text_of p))
+put_after s p m n x t l h k g =
     let a = after p x m h in
     let rest : drop n (text_of p) ≡ drop n x ++ a.rest = ap (drop n) a.all ∙ drop-append-le n x a.rest k in
-    subst (λ (y : List ℕ). IsText s p.may_follow l t y) (sym rest) (by m a.rest a.follows g)
+    subst (λ (y : List ℕ). IsPut s p.may_follow l t y) (sym rest) (by m a.rest a.follows g)
   where
-    by : (m : Bool) (z : List ℕ) → MayFollow m z p.may_follow → IsText s m l t (drop n x) → IsText s p.may_follow l t (drop n x ++ z)
-    by true z f g = text_on s p.may_follow l t (drop n x) z g
-    by false z f g = closed_on (λ b (y : List ℕ). IsText s b l t y) (drop n x) z p.may_follow f g
-
--- a part of the front
-pub part_in_front : (p : Pending) (m : Bool) (begin end : ℕ) (x : List ℕ) → IsInFront p x m → begin ≤ end
-    → end ≤ length x → take (end - begin) (drop begin (text_of p)) ≡ take (end - begin) (drop begin x)
-part_in_front p m begin end x h b e =
-    let a = after p x m h in
-    ap (λ (y : List ℕ). take (end - begin) (drop begin y)) a.all ∙ part_on begin end x a.rest b e
-
--- the front has the first n bytes, if it is all bytes, or has more than n
-pub front_fits : (others : Bool) (n : ℕ) (x y : List ℕ) → (others ≡ false → x ≡ y) → (others ≡ true → n < length x) → n ≤ length y → n ≤ length x
-front_fits false n x y a l h = subst (λ (z : List ℕ). n ≤ length z) (sym (a refl)) h
-front_fits true n x y a l h = let more : n < length x = l refl in omega (arith, more)
+    by : (m : Bool) (z : List ℕ) → MayFollow m z p.may_follow → IsPut s m l t (drop n x) → IsPut s p.may_follow l t (drop n x ++ z)
+    by true z f g = put_on s p.may_follow l t (drop n x) z g
+    by false z f g = closed_on (λ b (y : List ℕ). IsPut s b l t y) (drop n x) z p.may_follow f g
 
 -- what was seen after n bytes is seen at the front once these were consumed
-ahead_there : (a : Lookahead) (c : Call) (s : State) (p : Pending) → p.definition ≡ None → IsAhead a c s p.may_follow (text_of p) → IsLookaheadOf a c s p
-ahead_there aheads.Definition c s p f h = absurd h
-ahead_there (aheads.Text begin end n) c s p f h = (f, h)
-ahead_there (aheads.Byte b) c s p f h = (f, h)
-ahead_there (aheads.Expansion n) c s p f h = (f, h)
-ahead_there (aheads.LineSkip n) c s p f h = (f, h)
-ahead_there (aheads.Call n) c s p f h = (f, h)
-ahead_there (aheads.List n) c s p f h = (f, h)
-ahead_there aheads.End c s p f h = (f, h)
-ahead_there (aheads.Unended what) c s p f h = (f, h)
-ahead_there aheads.Undecided c s p f h = (f, h)
-ahead_there aheads.Further c s p f h = absurd h
+next_there : (a : Lookahead) (cs : List Call) (c : Call) (s : State) (p : Pending) → p.definition ≡ None
+    → IsNext a cs c s p.may_follow (text_of p) → IsLookaheadOf a cs c s p
+next_there aheads.Definition cs c s p f h = absurd h
+next_there aheads.EndsArgument cs c s p f h = (f, h)
+next_there aheads.ClosesList cs c s p f h = (f, h)
+next_there (aheads.Expansion n) cs c s p f h = (f, h)
+next_there (aheads.LineSkip n) cs c s p f h = (f, h)
+next_there (aheads.Call n) cs c s p f h = (f, h)
+next_there (aheads.List n) cs c s p f h = (f, h)
+next_there aheads.End cs c s p f h = (f, h)
+next_there (aheads.Unended what) cs c s p f h = (f, h)
+next_there aheads.Undecided cs c s p f h = (f, h)
 
 -- the bytes that are left of those at the front come first once the others were consumed
 pub front_left : (p : Pending) (m : Bool) (n : ℕ) (x : List ℕ) → IsInFront p x m → n ≤ length x → (rest : List ℕ) × (text_of (consumed n p) ≡ drop n x ++ rest)
@@ -218,19 +225,19 @@ front_left p m n x h k =
     let r = after p x m h in
     (r.rest, sym (drop_parts n p.pushed p.unread) ∙ ap (drop n) r.all ∙ drop-append-le n x r.rest k)
 
-pub ahead_front : (a : Lookahead) (c : Call) (s : State) (p : Pending) (others : Bool) (n : ℕ) (x : List ℕ)
+pub next_front : (a : Lookahead) (cs : List Call) (c : Call) (s : State) (p : Pending) (others : Bool) (n : ℕ) (x : List ℕ)
     → IsInFront p x (others || p.may_follow) → (others ≡ false → x ≡ text_of p) → n ≤ length x
     → (a ≡ aheads.Undecided → others ≡ false)
-    → IsAhead a c s (others || p.may_follow) (drop n x)
-    → IsLookaheadOf a c s (consumed n p)
-ahead_front a c s p false n x h all k u g =
-    ahead_there a c s (consumed n p) refl
-    (subst (λ (y : List ℕ). IsAhead a c s p.may_follow y) (ap (drop n) (all refl) ∙ drop_parts n p.pushed p.unread) g)
-ahead_front a c s p true n x h all k u g =
+    → IsNext a cs c s (others || p.may_follow) (drop n x)
+    → IsLookaheadOf a cs c s (consumed n p)
+next_front a cs c s p false n x h all k u g =
+    next_there a cs c s (consumed n p) refl
+    (subst (λ (y : List ℕ). IsNext a cs c s p.may_follow y) (ap (drop n) (all refl) ∙ drop_parts n p.pushed p.unread) g)
+next_front a cs c s p true n x h all k u g =
     let l = front_left p true n x h k in
-    ahead_there a c s (consumed n p) refl
-    (subst (λ (y : List ℕ). IsAhead a c s p.may_follow y) (sym l.1)
-    (ahead_on s p.may_follow a c (drop n x) l.0 (λ e. absurd (no (u e))) g))
+    next_there a cs c s (consumed n p) refl
+    (subst (λ (y : List ℕ). IsNext a cs c s p.may_follow y) (sym l.1)
+    (next_on s p.may_follow a cs c (drop n x) l.0 (λ e. absurd (no (u e))) g))
   where
     no : true ≡ false → ⊥
     no e = cc

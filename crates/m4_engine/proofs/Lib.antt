@@ -49,6 +49,7 @@ pub mod ListRuns
 pub mod Passing
 pub mod SkippedLines
 pub mod Leading
+mod ListEnds
 pub mod Marks
 pub mod Running
 pub mod Seen

@@ -75,7 +75,7 @@ still_after e p =
     let n : 0 + e.calls ≡ e.calls = omega arith in
     rw (append-nil e.output, append-nil e.messages, n) refl
 
-same_left : (e : Engine) (p : Pending) → turns_of (after_flush e) p ≡ turns_of e p
+pub same_left : (e : Engine) (p : Pending) → turns_of (after_flush e) p ≡ turns_of e p
 same_left e p =
     same_turns Expansion Kept Ended turn join out_of_bound_at size_of calls_left falls
     (Prefixed e.output e.messages (e.limits).calls (e.limits).nesting)

@@ -9,7 +9,7 @@ use Rattle.std.proofs.lemmas.List.{length-drop}
 use Rattle.m4_state.specs.declared.definition.Def.{Def}
 use Rattle.m4_input.specs.declared.token.Token.TheVariants.{Name, Str, Comment, Byte}
 use Rattle.m4_input.specs.Pending.{Pending, text_of, counted, consumed, newlines_in}
-use Rattle.m4_engine.specs.Plain.{IsPlain, total, ArePlain}
+use Rattle.m4_engine.specs.Plain.{IsPut, total, ArePlain}
 use Rattle.m4_engine.specs.Collected.{IsText, IsListToken, AreListTokens, bytes_in}
 use Rattle.m4_input.specs.Input.{Held, longer}
 use Rattle.m4_input.proofs.Consumed.{consumed_twice}
@@ -23,14 +23,14 @@ use Rattle.m4_engine.specs.Engine.{Engine, put_in, here_of, outer_of, configurat
 use Rattle.m4_engine.specs.Moments.{Moment, Next, moved, Comes}
 use Rattle.m4_engine.specs.Turns.{MayFollow, Moves}
 use Rattle.m4_engine.specs.Passes.{PassesPlain, PassesInner, PassesToken, PassesOnce, ArePasses, Passes, PassesText}
-use Rattle.m4_engine.specs.Passes.{PassesBy, IsLookahead}
+use Rattle.m4_engine.specs.Passes.{PassesBy, IsFull, IsLookahead}
 use Rattle.std.specs.Prelude.{Some, IfSome}
 use Rattle.std.specs.Borrow.{Bor}
 use Rattle.m4_input.specs.Blocks.{IsInFront}
 use Rattle.m4_engine.specs.declared.lookahead.Lookahead.{Lookahead}
 use Rattle.m4_engine.specs.declared.lookahead.Lookahead.TheVariants as aheads
-use Rattle.m4_engine.specs.Lookahead.{IsAhead}
-use Rattle.m4_engine.proofs.FrontRuns.{plain_front, list_front, text_after, take_in_front, ahead_front, front_left}
+use Rattle.m4_engine.specs.Lookahead.{IsNext}
+use Rattle.m4_engine.proofs.FrontRuns.{plain_front, list_front, put_after, take_in_front, next_front, front_left}
 use Rattle.m4_engine.proofs.FrontRuns.{front_less}
 use Rattle.m4_engine.proofs.Longer.{found_longer}
 use Rattle.m4_engine.proofs.LoopKeeps.{turns_of, turn_falls}
@@ -66,12 +66,12 @@ text_moves e p t n d h = λ z more c o m.
     ap (take_turn Expansion Kept Ended turn join []) (text_turn (at_top e) p n t d h z more c o m)
     ∙ (rw (append_assoc o e.output (issued (e.state).current t)) refl)
 
--- and so it puts a plain token
-plain_moves : (e : Engine) (p : Pending) (n : ℕ) → p.definition ≡ None → IsPlain e.state p.may_follow n (text_of p)
-    → Moves p.may_follow (with_output (take n (text_of p)) (at_top e)) (consumed n p) turns.GoesOn
+-- and so it puts a byte
+put_moves : (e : Engine) (p : Pending) (t : List ℕ) (n : ℕ) → p.definition ≡ None → IsPut e.state p.may_follow n t (text_of p)
+    → Moves p.may_follow (with_output t (at_top e)) (consumed n p) turns.GoesOn
     (λ z more o m. moved (configuration o m (at_top e) (longer z more p)))
-plain_moves e p n d (inl h) = text_moves e p (take n (text_of p)) n d h
-plain_moves e p n d (inr h) = λ z more c o m.
+put_moves e p t n d (inl h) = text_moves e p t n d h
+put_moves e p t n d (inr h) = λ z more c o m.
     ap (λ v. take_turn Expansion Kept Ended turn join [] (take_front v (here_of o m (at_top e) (longer z more p))))
     (found_longer (e.state).quotes (e.state).comments p (Byte h.0) n z more d h.1 c)
     ∙ (rw (append_assoc o e.output (issued (e.state).current (h.0 ∷ []))) refl)
@@ -85,14 +85,16 @@ consumed_none p d =
     ∙ ap (λ m. let q : Pending = record p { definition = None; newlines = m } in q) (counted_none p.newlines)
     ∙ ap (λ (o : Option Def). let q : Pending = record p { definition = o } in q) (sym d)
 
--- turns lead from the one to the other, whatever follows the bytes in hand, so that no more are left
+-- turns lead from the one to the other, whatever follows the bytes in hand, so that no more are left, and fewer if they
+-- made any output
 pub record Reaches (e : Engine) (p : Pending) (e1 : Engine) (p1 : Pending) : Type 0 where
   pub comes : (z : List ℕ) (more : Bool) → MayFollow p.may_follow z more → (o m : List ℕ)
       → (way : List Moment) × Comes way (Goes (configuration o m e (longer z more p))) (Goes (configuration o m e1 (longer z more p1)))
   pub turns : turns_of e1 p1 ≤ turns_of e p
+  pub fewer : (e1.output ≡ e.output) ⊎ (turns_of e1 p1 < turns_of e p)
 
 pub nothing_reaches : (e : Engine) (p : Pending) → Reaches e p e p
-nothing_reaches e p = record { comes = λ z more c o m. ([], refl); turns = omega arith }
+nothing_reaches e p = record { comes = λ z more c o m. ([], refl); turns = omega arith; fewer = inl refl }
 
 pub move_reaches : (e e1 e2 : Engine) (p p1 p2 : Pending) → p1.may_follow ≡ p.may_follow
     → Moves p.may_follow e1 p1 turns.GoesOn (λ z more o m. moved (configuration o m e (longer z more p)))
@@ -111,6 +113,7 @@ move_reaches e e1 e2 p p1 p2 k h r =
             ),
           );
       turns = omega arith;
+      fewer = inr (omega arith);
     }
 
 -- and so on from there
@@ -127,7 +130,14 @@ both_reach e e1 e2 p p1 p2 f a b =
                 (Goes (configuration o m e1 (longer z more p1))) (Goes (configuration o m e2 (longer z more p2))) first.1 later.1,
           );
       turns = omega arith;
+      fewer = by a.fewer b.fewer;
     }
+  where
+    by : (e1.output ≡ e.output) ⊎ (turns_of e1 p1 < turns_of e p) → (e2.output ≡ e1.output) ⊎ (turns_of e2 p2 < turns_of e1 p1)
+        → (e2.output ≡ e.output) ⊎ (turns_of e2 p2 < turns_of e p)
+    by (inl g) (inl k) = inl (k ∙ g)
+    by (inl g) (inr k) = let x : turns_of e1 p1 ≤ turns_of e p = a.turns in inr (omega (arith, k, x))
+    by (inr g) k = let y : turns_of e2 p2 ≤ turns_of e1 p1 = b.turns in inr (omega (arith, g, y))
 
 -- ---- two texts that are put one after the other are put as one
 
@@ -186,7 +196,7 @@ run_reaches (n ∷ lens) e p d h =
     let r = run_reaches lens e1 (consumed n p) refl
     (plain_kept e.state (take n (text_of p)) p.may_follow lens (text_of (consumed n p))
     (subst (ArePlain e.state p.may_follow lens) (drop_parts n p.pushed p.unread) h.1)) in
-    move_reaches (at_top e) (at_top e1) _ p (consumed n p) _ refl (plain_moves e p n d h.0)
+    move_reaches (at_top e) (at_top e1) _ p (consumed n p) _ refl (put_moves e p (take n (text_of p)) n d h.0)
     (subst (λ (x : Engine). Reaches (at_top e1) (consumed n p) x (consumed (n + total lens) p)) (both_put n (total lens) (at_top e) p)
     (subst (λ (q : Pending). Reaches (at_top e1) (consumed n p)
     (with_output (take (total lens) (text_of (consumed n p))) (at_top e1)) q) (consumed_twice n (total lens) p) r))
@@ -211,11 +221,11 @@ token_reaches e e1 i i1 h =
     let x : List ℕ = take n (text_of p) in
     let mid : Engine = with_output x (at_top e) in
     let q : Pending = consumed n p in
-    let there : IsText mid.state q.may_follow h.len h.text (text_of q) =
-    subst (λ (y : List ℕ). IsText e.state p.may_follow h.len h.text y) (drop_parts n p.pushed p.unread) h.found in
+    let there : IsPut mid.state q.may_follow h.len h.text (text_of q) =
+    subst (λ (y : List ℕ). IsPut e.state p.may_follow h.len h.text y) (drop_parts n p.pushed p.unread) h.found in
     let last : Reaches mid q (with_output h.text mid) (consumed h.len q) =
     move_reaches mid (with_output h.text mid) (with_output h.text mid) q (consumed h.len q) (consumed h.len q) refl
-    (text_moves mid q h.text h.len refl there) (nothing_reaches (with_output h.text mid) (consumed h.len q)) in
+    (put_moves mid q h.text h.len refl there) (nothing_reaches (with_output h.text mid) (consumed h.len q)) in
     let all : Reaches (at_top e) p (with_output h.text mid) (consumed (n + h.len) p) =
     subst (λ (r : Pending). Reaches (at_top e) p (with_output h.text mid) r) (consumed_twice n h.len p)
     (both_reach (at_top e) mid (with_output h.text mid) p q (consumed h.len q) refl (run_reaches h.lens e p h.first h.plain) last) in
@@ -259,8 +269,8 @@ passes_text old new i j m n x h f k (inr (inr r)) g =
       plain = run.1;
       text = r.1;
       len = r.2;
-      found = subst (λ (v : ℕ). IsText old.state (i.pending).may_follow r.2 r.1 (drop v (text_of i.pending))) (sym run.2)
-          (text_after old.state i.pending m r.0 x r.1 r.2 h le r.4);
+      found = subst (λ (v : ℕ). IsPut old.state (i.pending).may_follow r.2 r.1 (drop v (text_of i.pending))) (sym run.2)
+          (put_after old.state i.pending m r.0 x r.1 r.2 h le r.4);
       outside = r.6;
       first = f;
       engine = r.7
@@ -405,17 +415,20 @@ pub measure_less : (looked k : ℕ) (p q : Pending) → looked ≤ length (text_
     → measure (length (text_of q)) k < measure (length (text_of p)) looked
 measure_less looked k p q l e = measure_falls (length (text_of q)) (length (text_of p)) looked k l e.0 e.1
 
+-- a block of output is full, so turns put text
+pub filled_fall : (e e1 : Engine) (i i1 : Held) → Passes e e1 i i1 → length e.output < 65536 → IsFull e1
+    → turns_of e1 i1.pending < turns_of e i.pending
+filled_fall e e1 i i1 h few full = by (passes_reaches e e1 i i1 h).fewer
+  where
+    by : (e1.output ≡ e.output) ⊎ (turns_of e1 i1.pending < turns_of e i.pending) → turns_of e1 i1.pending < turns_of e i.pending
+    by (inl g) = let same : length e1.output ≡ length e.output = ap length g in omega (arith, few, full, same)
+    by (inr k) = k
+
 -- a pass over a text in front of an input
-module _ (a : Lookahead) (c : Call) (old new : Engine) (i j : Held) (looked n : ℕ) (x : List ℕ) (others more : Bool)
+module _ (a : Option Lookahead) (c : Call) (old new : Engine) (i j : Held) (looked n : ℕ) (x : List ℕ) (others more : Bool)
     (m : more ≡ (others || (i.pending).may_follow)) (h : IsInFront i.pending x (others || (i.pending).may_follow))
     (longer : others ≡ true → looked < length x) (d : (i.pending).definition ≡ None)
     (r : PassesBy n a c x more old new) (g : j ≡ record i { pending = consumed n i.pending }) where
-  abbrev ends : Type 0
-  ends = ((0 < n) × (a ≡ aheads.Further)) ⊎ IsAhead a c new.state (others || (i.pending).may_follow) (drop n x)
-
-  ends_so : ends
-  ends_so = subst (λ (v : Bool). ((0 < n) × (a ≡ aheads.Further)) ⊎ IsAhead a c new.state v (drop n x)) m r.end
-
   front_once : PassesOnce old new i j
   front_once = passes_text old new i j (others || (i.pending).may_follow) n x h d r.within (subst (λ (v : Bool). PassesText v n x old new) m r.passes) g
 
@@ -436,30 +449,31 @@ module _ (a : Lookahead) (c : Call) (old new : Engine) (i j : Held) (looked n : 
       by (suc n) h k = inl (front_less i.pending (others || (i.pending).may_follow) (suc n) x h (omega arith) k)
 
   -- some bytes were passed
-  front_further : a ≡ aheads.Further → IsFurther 0 looked i.pending j.pending
-  front_further f = subst (λ (v : Held). IsFurther 0 looked i.pending v.pending) (sym g) (omega arith, by ends_so)
+  front_further : a ≡ None → length new.output < 65536 → IsFurther 0 looked i.pending j.pending
+  front_further f few = subst (λ (v : Held). IsFurther 0 looked i.pending v.pending) (sym g) (omega arith, by (r.none f))
     where
-      by : ends → (length (text_of (consumed n i.pending)) < length (text_of i.pending))
+      by : (0 < n) ⊎ IsFull new → (length (text_of (consumed n i.pending)) < length (text_of i.pending))
           ⊎ ((length (text_of (consumed n i.pending)) ≡ length (text_of i.pending)) × (looked < 0))
-      by (inl e) = inl (front_less i.pending (others || (i.pending).may_follow) n x h e.0 r.within)
-      by (inr e) = absurd (subst (λ (v : Lookahead). IsAhead v c new.state (others || (i.pending).may_follow) (drop n x)) f e)
+      by (inl e) = inl (front_less i.pending (others || (i.pending).may_follow) n x h e r.within)
+      by (inr e) = absurd (let no : 65536 ≤ length new.output = e in omega (arith, few, no))
 
   -- a token was found
-  front_found : (others ≡ false → x ≡ text_of i.pending) → (a ≡ aheads.Undecided → others ≡ false) → (a ≡ aheads.Further → ⊥) → IsLookahead a c new j.pending
-  front_found all u f = subst (λ (v : Held). IsLookahead a c new v.pending) (sym g) (by ends_so)
-    where
-      by : ends → IsLookahead a c new (consumed n i.pending)
-      by (inl e) = absurd (f e.1)
-      by (inr e) = ahead_front a c new.state i.pending others n x h all r.within u e
+  front_found : (others ≡ false → x ≡ text_of i.pending) → (v : Lookahead) → a ≡ Some v → (v ≡ aheads.Undecided → others ≡ false)
+      → IsLookahead v c new j.pending
+  front_found all v f u =
+      subst (λ (w : Held). IsLookahead v c new w.pending) (sym g)
+      (next_front v new.open_calls c new.state i.pending others n x h all r.within u
+      (subst (λ (b : Bool). IsNext v new.open_calls c new.state b (drop n x)) m
+      (subst (λ (o : Option Lookahead). IfSome o (λ w. IsNext w new.open_calls c new.state more (drop n x))) f r.end)))
 
 -- what a pass over the front of an input did: `others` come after the bytes that it looked at, of which `left` are left
-pub record PassesFront (a : Lookahead) (c : Call) (looked left : ℕ) (others : Bool) (old new : Engine) (i j : Held) : Type 0 where
+pub record PassesFront (a : Option Lookahead) (c : Call) (looked left : ℕ) (others : Bool) (old new : Engine) (i j : Held) : Type 0 where
   pub once : PassesOnce old new i j
   pub undecided : others ≡ true → IsFurther left looked i.pending j.pending
-  pub further : a ≡ aheads.Further → IsFurther 0 looked i.pending j.pending
-  pub found : (a ≡ aheads.Undecided → others ≡ false) → (a ≡ aheads.Further → ⊥) → IsLookahead a c new j.pending
+  pub further : a ≡ None → length new.output < 65536 → IsFurther 0 looked i.pending j.pending
+  pub found : (v : Lookahead) → a ≡ Some v → (v ≡ aheads.Undecided → others ≡ false) → IsLookahead v c new j.pending
 
-pub passes_front : (a : Lookahead) (c : Call) (old new : Engine) (i j : Held) (looked n : ℕ) (text : Bor (List ℕ)) (others more : Bool)
+pub passes_front : (a : Option Lookahead) (c : Call) (old new : Engine) (i j : Held) (looked n : ℕ) (text : Bor (List ℕ)) (others more : Bool)
     (o : Option (Bor (List ℕ) × Bool)) → o ≡ Some (text, others) → more ≡ (others || (i.pending).may_follow)
     → IfSome o (λ r. IsInFront i.pending r.0.now (r.1 || (i.pending).may_follow))
     → IfSome o (λ r. r.1 ≡ false → r.0.now ≡ text_of i.pending)

@@ -1,5 +1,5 @@
 -- PlainRuns: plain tokens in order.
-use Rattle.std.proofs.Common.{◌≡◌, ◌<◌, inl, inr, Bool, ℕ, ◌+◌, List, [], ◌∷◌, ◌++◌, take, drop, sym, ap, ◌∙◌, subst, arith}
+use Rattle.std.proofs.Common.{◌≡◌, ◌<◌, inl, inr, Bool, ℕ, ◌+◌, ◌-◌, List, [], ◌∷◌, ◌++◌, take, drop, sym, ap, ◌∙◌, subst, arith}
 use Rattle.std.proofs.lemmas.List.{drop-drop}
 use Rattle.m4_state.specs.State.{State}
 use Rattle.m4_state.specs.declared.delimiters.Delimiters.{Delimiters}
@@ -10,7 +10,7 @@ use Rattle.m4_input.specs.Token.{scan}
 use Rattle.m4_input.proofs.Consumed.{HasBytes, scan_bytes}
 use Rattle.m4_input.proofs.Scanned.{byte_first}
 use Rattle.m4_engine.specs.Collected.{IsText, IsLone}
-use Rattle.m4_engine.specs.Plain.{IsPlain, total, ArePlain, IsPlainRun}
+use Rattle.m4_engine.specs.Plain.{IsPut, IsPlain, total, ArePlain, IsPlainRun}
 
 -- tokens, and those after them
 joined : (s : State) (o : Bool) (lens more x : List ℕ) → ArePlain s o lens x → ArePlain s o more (drop (total lens) x)
@@ -53,3 +53,13 @@ unfolding HasBytes
 text_some s m n t x (inl e) = found_some s.quotes s.comments m x (Found (Str t) n) e
 text_some s m n t x (inr (inl e)) = found_some s.quotes s.comments m x (Found (Name t) n) e.0
 text_some s m n t x (inr (inr e)) = found_some s.quotes s.comments m x (Found (Comment t) n) e
+
+-- and so has each token that is put
+pub put_some : (s : State) (m : Bool) (n : ℕ) (t x : List ℕ) → IsPut s m n t x → 0 < n
+unfolding HasBytes
+put_some s m n t x (inl e) = text_some s m n t x e
+put_some s m n t x (inr e) = found_some s.quotes s.comments m x (Found (Byte e.0) n) e.1
+
+-- a byte is all of its token
+pub byte_part : (s : State) (o : Bool) (b : ℕ) (x : List ℕ) → scan s.quotes s.comments o x ≡ Found (Byte b) 1 → take (1 - 0) (drop 0 x) ≡ b ∷ []
+byte_part s o b x h = ap (take 1) (byte_first s.quotes s.comments o x b 1 h)

@@ -26,7 +26,7 @@ use Rattle.m4_engine.specs.Expand.{turn, join, expand, skip_line, skip_all, out_
 use Rattle.m4_engine.specs.Engine.{Engine, so_far_of, outer_of, here_of, configuration, after_flush, IsReady}
 use Rattle.m4_engine.specs.Engine.{HasFront, KeepsOutput}
 use Rattle.m4_engine.specs.Turns.{MayFollow, Moving, Moves, Needs, IsTurned, StaysBy, cause_of_end}
-use Rattle.m4_engine.specs.Passes.{Passes}
+use Rattle.m4_engine.specs.Passes.{Passes, IsFull}
 use Rattle.m4_engine.specs.Expands.{IsInOrder, FlushesPrefix, FlushesDue}
 use Rattle.m4_engine.specs.Continued.{BreaksInOrder, OrderBy, skipped_first, comes_to, Leads, Marked, IsMarked}
 use Rattle.m4_engine.specs.Continued.{IsFlushed, HandNeeds, HandEnds, HandBreaks, HandGives, HasMade, so_far_in}
@@ -36,9 +36,9 @@ use Rattle.m4_engine.proofs.Begins.{all_begun}
 use Rattle.m4_engine.proofs.CallsFall.{falls}
 use Rattle.m4_engine.proofs.Growth.{Extends}
 use Rattle.m4_engine.proofs.Inputs.{none_is_front}
-use Rattle.m4_engine.proofs.LoopKeeps.{turns_of, move_falls, meaning_of, moved_on, end_means}
+use Rattle.m4_engine.proofs.LoopKeeps.{turns_of, same_left, move_falls, meaning_of, moved_on, end_means}
 use Rattle.m4_engine.proofs.MachineIsNesting.{resume-halted, popped, move_keeps}
-use Rattle.m4_engine.proofs.Passing.{passes_reaches, passes_ready}
+use Rattle.m4_engine.proofs.Passing.{passes_reaches, passes_ready, filled_fall}
 use Rattle.m4_engine.proofs.Leading.{leads_then, leads_on, leads_nowhere, leads_past, leads_turn, leads_to_line}
 use Rattle.m4_engine.proofs.Leading.{leads_past_line, leads_along_line, leads_flushed, leads_same}
 use Rattle.m4_engine.proofs.Marks.{due_some, mark_here, mark_front, mark_turn, mark_own, mark_flushed, mark_due}
@@ -198,15 +198,42 @@ fell_past_line e e1 e' e2 i i1 k i' out out' reported reported' t w h y g due d 
     let b : turns_of e1 i1.pending ≤ turns_of e i.pending = (passes_reaches e e1 i i1 w).turns in
     omega arith
 
--- ---- the ends of the loop
-
-flushed_is : (e : Engine) → IsFlushed (after_flush e)
-flushed_is e = record { output = refl; messages = refl }
-
 all_held : (e : Engine) → e ≡ record (after_flush e) { output = e.output ++ []; messages = e.messages ++ [] }
 all_held e =
     ap (λ (x : List ℕ). let d : Engine = record e { output = x } in d) (sym (append-nil e.output))
     ∙ ap (λ (x : List ℕ). let d : Engine = record e { output = e.output ++ []; messages = x } in d) (sym (append-nil e.messages))
+
+-- a block of output that passes filled is written, before any message
+pub filled_on : (w : Wanted) (e0 e e2 : Engine) (p0 : Pending) (i : Held)
+    (out0 reported0 out reported out' : Option (List ℕ)) → Running w e0 p0 out0 reported0 e i out reported
+    → e.messages ≡ [] → e2 ≡ after_flush e → out' ≡ with_bytes out e.output
+    → Running w e0 p0 out0 reported0 e2 i out' reported
+filled_on w e0 e e2 p0 i out0 reported0 out reported out' r q j f =
+    let on : Leads w e0 p0 wanted.Token (after_flush e) i.pending (r.o ++ e.output) (r.m ++ e.messages) =
+    leads_then w wanted.Token wanted.Token e0 e (after_flush e) p0 i.pending i.pending r.o r.m e.output e.messages
+    r.leads (leads_flushed wanted.Token e (after_flush e) i.pending e.output e.messages (all_held e)) in
+    subst (λ (x : Engine). Running w e0 p0 out0 reported0 x i out' reported) (sym j)
+    (record {
+      o = r.o ++ e.output;
+      m = r.m ++ e.messages;
+      written = more_written r.o r.m e.output e.messages out0 out out' reported0 reported reported r.written f
+          (with_bytes-nil reported ∙ ap (λ (x : List ℕ). with_bytes reported x) (sym q));
+      marked = mark_here w e0 (after_flush e) p0 i.pending (r.o ++ e.output) (r.m ++ e.messages) on refl;
+      leads = on;
+      ready = r.ready;
+    })
+
+-- and the measure falls
+pub filled : (e e1 e2 : Engine) (i i1 : Held) → Passes e e1 i i1 → length e.output < 65536 → IsFull e1 → e2 ≡ after_flush e1
+    → turns_of e2 i1.pending < turns_of e i.pending
+filled e e1 e2 i i1 h few full j =
+    subst (λ n. n < turns_of e i.pending) (sym (ap (λ (d : Engine). turns_of d i1.pending) j ∙ same_left e1 i1.pending))
+    (filled_fall e e1 i i1 h few full)
+
+-- ---- the ends of the loop
+
+flushed_is : (e : Engine) → IsFlushed (after_flush e)
+flushed_is e = record { output = refl; messages = refl }
 
 -- what is made after a flush is the same
 same_so_far : (a b : List ℕ) (e : Engine) → so_far_of (a ++ e.output) (b ++ e.messages) (after_flush e) ≡ so_far_of a b e

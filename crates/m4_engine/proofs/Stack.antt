@@ -1,7 +1,7 @@
 -- Stack: the open calls are the first ones of a stack, the innermost last.
 use Rattle.std.proofs.Common.{◌≡◌, ℕ, zero, suc, ◌<◌, ◌≤◌, ◌+◌, ◌-◌, List, [], ◌∷◌, length, take, sym, ap, ◌∙◌, subst, arith}
 use Rattle.std.specs.Prelude.{reverse, slice_set, slice_index_or}
-use Rattle.std.proofs.lemmas.List.{take_more, take_more_set, take-set, reverse-append}
+use Rattle.std.proofs.lemmas.List.{take_more, take-set, reverse-append}
 use Rattle.m4_engine.specs.Expansion.{Call}
 use Rattle.m4_engine.specs.MachineView.{open_of}
 
@@ -28,12 +28,3 @@ innermost_is xs n c z l h =
     subst (λ (m : ℕ). open_of m xs ≡ c ∷ open_of (n - 1) xs) e
     (ap reverse (take_more xs (n - 1) c (omega (arith, z, l))) ∙ reverse-append (take (n - 1) xs) (slice_index_or xs (n - 1) c ∷ [])
     ∙ ap (λ (d : Call). d ∷ open_of (n - 1) xs) (sym h))
-
--- the innermost is written as it was
-pub same_set : (xs : List Call) (n : ℕ) (c : Call) → 0 < n → n ≤ length xs → c ≡ slice_index_or xs (n - 1) c
-    → open_of n (slice_set xs (n - 1) c) ≡ open_of n xs
-same_set xs n c z l h =
-    let e : n - 1 + 1 ≡ n = omega (arith, z) in
-    subst (λ (m : ℕ). open_of m (slice_set xs (n - 1) c) ≡ c ∷ open_of (n - 1) xs) e
-    (ap reverse (take_more_set xs (n - 1) c (omega (arith, z, l))) ∙ reverse-append (take (n - 1) xs) (c ∷ []))
-    ∙ sym (innermost_is xs n c z l h)

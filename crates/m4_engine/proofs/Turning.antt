@@ -1,5 +1,5 @@
 -- Turning: a turn is what the token at the front makes of it, whatever follows the bytes in hand.
-use Rattle.std.proofs.Common.{◌≡◌, ◌⊎◌, inl, inr, ℕ, Bool, List, take, drop, Some, None, refl, sym, ap}
+use Rattle.std.proofs.Common.{◌≡◌, inl, inr, ℕ, Bool, List, take, drop, Some, None, refl, sym, ap}
 use Rattle.std.proofs.Common.{◌∙◌, subst}
 use Rattle.std.specs.Prelude.{Result, Ok, Err, IfOk}
 use Rattle.m4_state.specs.declared.definition.Def.{Def}
@@ -8,7 +8,7 @@ use Rattle.m4_input.specs.declared.front.Answer.TheVariants.{Unknown}
 use Rattle.m4_input.specs.declared.front.Scan.TheVariants.{Found, Broken, NeedsMore}
 use Rattle.m4_input.specs.declared.front.Unended.{Unended}
 use Rattle.m4_input.specs.declared.token.Token.{Token}
-use Rattle.m4_input.specs.declared.token.Token.TheVariants.{Name, Str, Comment, End}
+use Rattle.m4_input.specs.declared.token.Token.TheVariants.{Name, End}
 use Rattle.m4_input.specs.Pending.{Pending, text_of, line_of, name_of, consumed}
 use Rattle.m4_input.specs.Token.{scan, Taken, Refused, front_by, front_from, token_at}
 use Rattle.m4_input.specs.Paren.{paren_in}
@@ -26,15 +26,14 @@ use Rattle.m4_engine.specs.Expansion.{Call, Ends, place_at}
 use Rattle.m4_engine.specs.Expand.{take_call, take_end, take_name, take_token, take_front, call_of, unended_text}
 use Rattle.m4_engine.specs.Expand.{unended_cause}
 use Rattle.m4_engine.specs.Engine.{Engine, so_far_of, mode_of, outer_of, here_of, configuration, with_engine_message}
-use Rattle.m4_engine.specs.Engine.{with_text, IsReady}
-use Rattle.m4_engine.specs.Collected.{IsText}
+use Rattle.m4_engine.specs.Engine.{IsReady}
 use Rattle.m4_engine.specs.Plain.{IsUndecided}
-use Rattle.m4_engine.specs.Turns.{step, moved, MayFollow, Extended, Stays, Moves, Makes, Steps, Turns, Needs}
-use Rattle.m4_engine.proofs.Acts.{result_by, turned_steps, turned_makes, text_limits}
+use Rattle.m4_engine.specs.Turns.{step, moved, MayFollow, Extended, Moves, Makes, Steps, Turns, Needs}
+use Rattle.m4_engine.proofs.Acts.{result_by, turned_steps, turned_makes}
 use Rattle.m4_engine.proofs.Calling.{failed_at}
 use Rattle.m4_engine.proofs.Longer.{found_longer, broken_longer}
 use Rattle.m4_engine.proofs.Named.{place_of_file}
-use Rattle.m4_engine.proofs.Seen.{list_there, word_moves, string_moves}
+use Rattle.m4_engine.proofs.Seen.{list_there}
 
 -- what has no end
 pub unended_moves : (e e1 : Engine) (what w : Unended) (line : ℕ) (at : Place) (p before : Pending) (o m : List ℕ)
@@ -149,46 +148,6 @@ found_steps_at e e1 t n i k j r d s g m st =
     (take_token t (longer z more k.pending) (here_of o m e (longer z more i.pending))))))
     (ap (λ (h : Held). (h.pending).may_follow) g) m) st
 
--- the input after a token
-after_token : (i : Held) (n : ℕ) → IsReady i → Stays i (record i { pending = consumed n i.pending })
-after_token i n r = record { ready = record { sound = r.sound; front = tt }; follows = refl; file = refl }
-
--- a token that is text
-text_turn : (e e1 : Engine) (t : Token) (n : ℕ) (x : List ℕ) (i : Held) → IsReady i → (i.pending).definition ≡ None
-    → scan (e.state).quotes (e.state).comments (i.pending).may_follow (text_of i.pending) ≡ Found t n
-    → e1 ≡ with_text x e
-    → Moves (i.pending).may_follow e1 (consumed n i.pending) turns.GoesOn
-    (λ z more o m. step (outer_of e.open_calls)
-    (take_token t (longer z more (consumed n i.pending)) (here_of o m e (longer z more i.pending))))
-    → Turns (Ok turns.GoesOn) e e1 i (record i { pending = consumed n i.pending })
-text_turn e e1 t n x i r d s k m = record {
-  moves = turn_found e e1 t n i.pending (consumed n i.pending) (consumed n i.pending) (Ok turns.GoesOn) d s refl m;
-  ready = after_token i n r;
-  limits = ap (λ (d : Engine). d.limits) k ∙ text_limits e.open_calls x e;
-  made = tt;
-}
-
--- a name without a definition
-pub word_turn : (e e1 : Engine) (name : List ℕ) (n : ℕ) (i j : Held) → IsReady i → (i.pending).definition ≡ None
-    → scan (e.state).quotes (e.state).comments (i.pending).may_follow (text_of i.pending) ≡ Found (Name name) n
-    → top_of e.state name ≡ None → j ≡ record i { pending = consumed n i.pending } → e1 ≡ with_text name e
-    → Turns (Ok turns.GoesOn) e e1 i j
-word_turn e e1 name n i j r d s h g k =
-    subst (λ (j : Held). Turns (Ok turns.GoesOn) e e1 i j) (sym g)
-    (text_turn e e1 (Name name) n name i r d s k (word_moves e e1 name (consumed n i.pending) h k (λ z more. longer z more i.pending)))
-
--- a string or a comment
-pub string_turn : (e e1 : Engine) (x : List ℕ) (t : Token) (n : ℕ) (i j : Held) → (t ≡ Str x) ⊎ (t ≡ Comment x)
-    → IsReady i → (i.pending).definition ≡ None
-    → scan (e.state).quotes (e.state).comments (i.pending).may_follow (text_of i.pending) ≡ Found t n
-    → j ≡ record i { pending = consumed n i.pending } → e1 ≡ with_text x e → Turns (Ok turns.GoesOn) e e1 i j
-string_turn e e1 x t n i j (inl a) r d s g k =
-    subst (λ (j : Held). Turns (Ok turns.GoesOn) e e1 i j) (sym g)
-    (text_turn e e1 (Str x) n x i r d (s ∙ ap (λ u. Found u n) a) k (string_moves e e1 x (consumed n i.pending) k (λ z more. longer z more i.pending)))
-string_turn e e1 x t n i j (inr a) r d s g k =
-    subst (λ (j : Held). Turns (Ok turns.GoesOn) e e1 i j) (sym g)
-    (text_turn e e1 (Comment x) n x i r d (s ∙ ap (λ u. Found u n) a) k (string_moves e e1 x (consumed n i.pending) k (λ z more. longer z more i.pending)))
-
 -- the end of the input
 pub end_turn : (e e1 : Engine) (n : ℕ) (i : Held) (r : Result Turned TurnFault) → IsReady i
     → (i.pending).definition ≡ None
@@ -223,14 +182,6 @@ broken_turn e e1 what line i r q d s l k =
 -- more bytes are needed
 needs_turn : (e : Engine) (i : Held) → IsReady i → Needs e e i i → Turns (Ok turns.NeedsMore) e e i i
 needs_turn e i r n = record { moves = tt; ready = record { ready = r; follows = refl; file = refl }; limits = refl; made = n }
-
--- a token that is text
-pub text_taken : (e e1 : Engine) (n : ℕ) (t : List ℕ) (i j : Held) → IsReady i → (i.pending).definition ≡ None
-    → IsText e.state (i.pending).may_follow n t (text_of i.pending) → j ≡ record i { pending = consumed n i.pending }
-    → e1 ≡ with_text t e → Turns (Ok turns.GoesOn) e e1 i j
-text_taken e e1 n t i j r d (inl s) g k = string_turn e e1 t (Str t) n i j (inl refl) r d s g k
-text_taken e e1 n t i j r d (inr (inl s)) g k = word_turn e e1 t n i j r d s.0 s.1 g k
-text_taken e e1 n t i j r d (inr (inr s)) g k = string_turn e e1 t (Comment t) n i j (inr refl) r d s g k
 
 -- the bytes in hand don't decide the token, or whether a list follows
 pub undecided_turn : (e : Engine) (i : Held) → IsReady i → (i.pending).definition ≡ None

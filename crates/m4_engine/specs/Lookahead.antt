@@ -1,7 +1,9 @@
 -- Lookahead: the next token, as it was recognised before a turn consumes it.
 -- Not believed: it connects the code with `Expand`; the turns' lemmas prove that they agree.
--- Words: IsExpansion, IsCalled, Recognises, IsNamed, IsAhead, IsLookaheadOf.
-use Rattle.std.specs.Prelude.{◌≡◌, ◌≢◌, ◌<◌, ◌≤◌, ◌-◌, Bool, true, false, ℕ, List, [], None, Some, length, take, drop}
+-- Words: IsExpansion, IsCalled, Recognises, IsNamed, IsAhead, IsFirst, IsLeftOutside, IsEndByte, IsEndIn,
+-- IsNext, IsLookaheadOf.
+use Rattle.std.specs.Prelude.{◌≡◌, ◌≢◌, ◌<◌, ◌≤◌, ◌-◌, Bool, true, false, ℕ, List, [], ◌∷◌, None, Some, length, take}
+use Rattle.std.specs.Prelude.{drop}
 use Rattle.m4_state.specs.declared.builtin.Builtin.TheVariants.{Dnl}
 use Rattle.m4_state.specs.declared.definition.Def.TheVariants.{Text, Builtin}
 use Rattle.m4_state.specs.State.{State, top_of}
@@ -14,11 +16,17 @@ use Rattle.m4_input.specs.Input.{answer_of}
 use Rattle.m4_state.specs.declared.definition.Def.{Def}
 use Rattle.m4_builtins.specs.Act.{needs_list}
 use Rattle.m4_builtins.specs.Subst.{subst}
-use Rattle.m4_engine.specs.Collected.{IsText}
+use Rattle.m4_engine.specs.Collected.{IsText, IsListEnd}
 use Rattle.m4_engine.specs.Expansion.{Call}
-use Rattle.m4_engine.specs.Plain.{IsUndecided}
+use Rattle.m4_engine.specs.Plain.{IsPut, IsUndecided}
 use Rattle.m4_engine.specs.declared.lookahead.Lookahead.{Lookahead}
 use Rattle.m4_engine.specs.declared.lookahead.Lookahead.TheVariants as aheads
+use Rattle.m4_engine.specs.declared.lookahead.FirstToken.{FirstToken}
+use Rattle.m4_engine.specs.declared.lookahead.FirstToken.TheVariants as firsts
+use Rattle.m4_engine.specs.declared.outside.LeftOutside.{LeftOutside}
+use Rattle.m4_engine.specs.declared.outside.LeftOutside.TheVariants as lefts
+use Rattle.m4_engine.specs.declared.role.ListEnd.{ListEnd}
+use Rattle.m4_engine.specs.declared.role.ListEnd.TheVariants as ends
 
 -- c has the definition of a text macro, whose text is its expansion if it is called without a list
 abbrev pub IsExpansion : Call → State → List ℕ → Type 0
@@ -41,12 +49,11 @@ pub record IsNamed (n : ℕ) (listed : Bool) (s : State) (m : Bool) (x : List �
   pub within : n ≤ length x
   pub list : paren_in s.quotes s.comments m (drop n x) ≡ answer_of listed
 
--- the lookahead, with the next call c, is right for the first token of a text
+-- the lookahead, with the next call c, is right for the first token of a text, in any list
 abbrev pub IsAhead : Lookahead → Call → State → Bool → List ℕ → Type 0
 IsAhead aheads.Definition c s m x = ⊥
-IsAhead (aheads.Text begin end n) c s m x =
-    IsText s m n (take (end - begin) (drop begin x)) x × (begin ≤ end) × (end ≤ length x) × (n ≤ length x)
-IsAhead (aheads.Byte b) c s m x = (scan s.quotes s.comments m x ≡ Found (Byte b) 1) × (0 < length x)
+IsAhead aheads.EndsArgument c s m x = ⊥
+IsAhead aheads.ClosesList c s m x = ⊥
 IsAhead (aheads.Expansion n) c s m x =
     IsNamed n false s m x × IsExpansion c s (take n x)
 IsAhead (aheads.LineSkip n) c s m x =
@@ -56,9 +63,38 @@ IsAhead (aheads.List n) c s m x = IsNamed n true s m x × IsCalled c s (take n x
 IsAhead aheads.End c s m x = scan s.quotes s.comments m x ≡ Found End 0
 IsAhead (aheads.Unended what) c s m x = scan s.quotes s.comments m x ≡ Broken what
 IsAhead aheads.Undecided c s m x = IsUndecided s m x
-IsAhead aheads.Further c s m x = ⊥
+
+-- the token, with the next call c, is the first one of a text
+abbrev pub IsFirst : FirstToken → Call → State → Bool → List ℕ → Type 0
+IsFirst (firsts.Text begin end n) c s m x =
+    IsText s m n (take (end - begin) (drop begin x)) x × (begin ≤ end) × (end ≤ length x) × (n ≤ length x)
+IsFirst (firsts.Byte b) c s m x = (scan s.quotes s.comments m x ≡ Found (Byte b) 1) × (0 < length x)
+IsFirst (firsts.Other a) c s m x = IsAhead a c s m x
+
+-- outside of calls this is left of the first token of a text: the token, or n bytes of which a part is put
+abbrev pub IsLeftOutside : LeftOutside → Call → State → Bool → List ℕ → Type 0
+IsLeftOutside (lefts.Other a) c s m x = IsAhead a c s m x
+IsLeftOutside (lefts.Text begin end n) c s m x =
+    IsPut s m n (take (end - begin) (drop begin x)) x × (begin ≤ end) × (end ≤ length x) × (n ≤ length x)
+
+-- the first token of a text is a byte that ends the argument or the list of an open call
+pub record IsEndByte (end : ListEnd) (d : Call) (s : State) (m : Bool) (x : List ℕ) : Type 0 where
+  pub byte : ℕ
+  pub scanned : scan s.quotes s.comments m x ≡ Found (Byte byte) 1
+  pub ends : IsListEnd end byte d
+
+-- the same of the innermost of these open calls
+abbrev pub IsEndIn : ListEnd → List Call → State → Bool → List ℕ → Type 0
+IsEndIn end [] s m x = ⊥
+IsEndIn end (d ∷ ds) s m x = IsEndByte end d s m x
+
+-- the lookahead, with the next call c, is right for the first token of a text inside of these open calls
+abbrev pub IsNext : Lookahead → List Call → Call → State → Bool → List ℕ → Type 0
+IsNext aheads.EndsArgument cs c s m x = IsEndIn ends.Argument cs s m x
+IsNext aheads.ClosesList cs c s m x = IsEndIn ends.List cs s m x
+IsNext a cs c s m x = IsAhead a c s m x
 
 -- the lookahead is right for the next token
-abbrev pub IsLookaheadOf : Lookahead → Call → State → Pending → Type 0
-IsLookaheadOf aheads.Definition c s p = p.definition ≢ None
-IsLookaheadOf a c s p = (p.definition ≡ None) × IsAhead a c s p.may_follow (text_of p)
+abbrev pub IsLookaheadOf : Lookahead → List Call → Call → State → Pending → Type 0
+IsLookaheadOf aheads.Definition cs c s p = p.definition ≢ None
+IsLookaheadOf a cs c s p = (p.definition ≡ None) × IsNext a cs c s p.may_follow (text_of p)

@@ -1,15 +1,26 @@
 -- Passes: tokens that call nothing, taken many at once, as the turns that they stand for.
 -- Not believed: it connects the engine's passes with its turns.
-use Rattle.std.specs.Prelude.{◌≡◌, None, ℕ, ◌+◌, Bool, List, [], ◌∷◌, length, take, drop, ◌<◌, ◌≤◌, ◌⊎◌}
+use Rattle.std.specs.Prelude.{◌≡◌, Option, None, IfSome, ℕ, ◌+◌, Bool, List, [], ◌∷◌, length, take, drop, ◌<◌, ◌≤◌, ◌⊎◌}
 use Rattle.m4_input.specs.Pending.{Pending, text_of, consumed}
-use Rattle.m4_engine.specs.Plain.{total, ArePlain, IsPlainRun}
-use Rattle.m4_engine.specs.Collected.{IsText, IsListRun}
+use Rattle.m4_engine.specs.Plain.{IsPut, total, ArePlain, IsPlainRun}
+use Rattle.m4_engine.specs.Collected.{IsListRun}
 use Rattle.m4_engine.specs.Expansion.{Call}
 use Rattle.m4_input.specs.Input.{Held}
 use Rattle.m4_engine.specs.declared.lookahead.Lookahead.{Lookahead}
-use Rattle.m4_engine.specs.declared.lookahead.Lookahead.TheVariants as aheads
-use Rattle.m4_engine.specs.Lookahead.{IsAhead, IsLookaheadOf}
+use Rattle.m4_engine.specs.Lookahead.{IsNext, IsLookaheadOf}
+use Rattle.m4_engine.specs.declared.token_sink.Taken.{Taken}
+use Rattle.m4_engine.specs.declared.token_sink.Taken.TheVariants as takens
 use Rattle.m4_engine.specs.Engine.{Engine, put_in}
+
+-- P is so of the end, if a sink took a token
+abbrev pub IfUpTo : {L : Type 0} → Taken L → (ℕ → Type 0) → Type 0
+IfUpTo (takens.UpTo end) P = P end
+IfUpTo (takens.Left token) P = Unit {0}
+
+-- P is so of what a token is left for, if a sink left it
+abbrev pub IfLeft : {L : Type 0} → Taken L → (L → Type 0) → Type 0
+IfLeft (takens.UpTo end) P = Unit {0}
+IfLeft (takens.Left token) P = P token
 
 -- outside of calls, with no definition before the text: its first tokens, which are plain text, were added where text
 -- goes: to the output, to a diversion, or nowhere
@@ -34,13 +45,13 @@ pub record PassesInner (old new : Engine) (i j : Held) : Type 0 where
   pub engine : new ≡ record old { open_calls = after ∷ around }
   pub input : j ≡ record i { pending = consumed len i.pending }
 
--- the same, and then a token that is text, which was added there: of a string what is between its quotes
+-- the same, and then a token whose text was added there: of a string what is between its quotes
 pub record PassesToken (old new : Engine) (i j : Held) : Type 0 where
   pub lens : List ℕ
   pub plain : ArePlain old.state (i.pending).may_follow lens (text_of i.pending)
   pub text : List ℕ
   pub len : ℕ
-  pub found : IsText old.state (i.pending).may_follow len text (drop (total lens) (text_of i.pending))
+  pub found : IsPut old.state (i.pending).may_follow len text (drop (total lens) (text_of i.pending))
   pub outside : old.open_calls ≡ []
   pub first : (i.pending).definition ≡ None
   pub engine : new ≡ put_in [] text (put_in [] (take (total lens) (text_of i.pending)) old)
@@ -61,7 +72,7 @@ Passes old new i j = (ss : List (Engine × Held)) × ArePasses ss old new i j
 
 -- the lookahead, with the next call, is right for the next token
 abbrev pub IsLookahead : Lookahead → Call → Engine → Pending → Type 0
-IsLookahead a c e p = IsLookaheadOf a c e.state p
+IsLookahead a c e p = IsLookaheadOf a e.open_calls c e.state p
 
 -- the first n bytes of a text are such tokens, and were added where they go
 abbrev pub PassesText : Bool → ℕ → List ℕ → Engine → Engine → Type 0
@@ -69,11 +80,18 @@ PassesText m n x old new =
     (IsPlainRun old.state m n x × (old.open_calls ≡ []) × (new ≡ put_in [] (take n x) old))
     ⊎ (((c : Call) × (d : Call) × (cs : List Call) × IsListRun old.state m n c d x × (old.open_calls ≡ c ∷ cs)
     × (new ≡ record old { open_calls = d ∷ cs }))
-    ⊎ ((k : ℕ) × (t : List ℕ) × (l : ℕ) × IsPlainRun old.state m k x × IsText old.state m l t (drop k x)
+    ⊎ ((k : ℕ) × (t : List ℕ) × (l : ℕ) × IsPlainRun old.state m k x × IsPut old.state m l t (drop k x)
     × (n ≡ k + l) × (old.open_calls ≡ []) × (new ≡ put_in [] t (put_in [] (take k x) old))))
 
--- a pass over a text, after which more bytes may come, ends at the next token, or something was passed before it
-pub record PassesBy (n : ℕ) (a : Lookahead) (c : Call) (x : List ℕ) (more : Bool) (old new : Engine) : Type 0 where
+-- a block of output is full
+abbrev pub IsFull : Engine → Type 0
+IsFull e = 65536 ≤ length e.output
+
+-- a pass over a text, after which more bytes may come, ends at the next token; or it found none, since a block of
+-- output is full, or some bytes were passed
+pub record PassesBy (n : ℕ) (a : Option Lookahead) (c : Call) (x : List ℕ) (more : Bool) (old new : Engine)
+    : Type 0 where
   pub passes : PassesText more n x old new
   pub within : n ≤ length x
-  pub end : ((0 < n) × (a ≡ aheads.Further)) ⊎ IsAhead a c new.state more (drop n x)
+  pub end : IfSome a (λ v. IsNext v new.open_calls c new.state more (drop n x))
+  pub none : a ≡ None → (0 < n) ⊎ IsFull new

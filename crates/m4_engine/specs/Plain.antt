@@ -1,7 +1,7 @@
 -- Plain: tokens at the start of a text that expand to themselves.
 -- Not believed: it only says which turns a run may make at once, by the tokens of `scan`. If more bytes may follow
 -- (`m`), only tokens that they can't change are meant.
--- Words: IsPlain, total, ArePlain, IsPlainRun, IsUndecided.
+-- Words: IsPut, IsPlain, total, ArePlain, IsPlainRun, IsUndecided.
 use Rattle.std.specs.Prelude.{◌≡◌, ℕ, ◌+◌, Bool, List, [], ◌∷◌, Some, take, drop, ◌⊎◌}
 use Rattle.m4_state.specs.declared.definition.Def.{Def}
 use Rattle.m4_state.specs.State.{State, top_of}
@@ -12,11 +12,14 @@ use Rattle.m4_input.specs.Token.{scan}
 use Rattle.m4_input.specs.Paren.{paren_in}
 use Rattle.m4_engine.specs.Collected.{IsText}
 
--- the first token, of n bytes, is text that is all of it, or a byte that is no other token
+-- the first token, of n bytes, puts the text t: it is text, or a byte that is no other token
+abbrev pub IsPut : State → Bool → ℕ → List ℕ → List ℕ → Type 0
+IsPut s m n t x =
+    IsText s m n t x ⊎ ((b : ℕ) × (scan s.quotes s.comments m x ≡ Found (Byte b) n) × (t ≡ b ∷ []))
+
+-- the first token, of n bytes, puts all of itself
 abbrev pub IsPlain : State → Bool → ℕ → List ℕ → Type 0
-IsPlain s m n x =
-    IsText s m n (take n x) x
-    ⊎ ((b : ℕ) × (scan s.quotes s.comments m x ≡ Found (Byte b) n) × (take n x ≡ b ∷ []))
+IsPlain s m n x = IsPut s m n (take n x) x
 
 -- the number of bytes of tokens with these lengths
 abbrev pub total : List ℕ → ℕ

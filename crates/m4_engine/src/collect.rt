@@ -2,51 +2,58 @@
 //! others end it, or are counted or dropped. Manual: "Macro arguments", "Quoting arguments".
 
 ghost use Rattle.std.proofs.Common.{refl};
-ghost use Rattle.std.specs.Prelude.{◌≡◌, ◌≤◌, true, false, [], length, take};
+ghost use Rattle.std.specs.Prelude.{◌≡◌, ◌≤◌, true, false, List, [], ◌∷◌, length, take};
 ghost use Rattle.m4_engine.specs.Collected.{HaveRole, IsListRun};
 ghost use Rattle.m4_engine.specs.Expansion.{Call};
+ghost use Rattle.m4_engine.specs.Lookahead.{IsNext};
 ghost use Rattle.m4_engine.specs.declared.role.Role.TheVariants.{Blank, Other};
 
 use crate::call::OpenCall;
-use crate::lookahead::Lookahead;
-use crate::role::Role;
-use crate::token_sink::TokenSink;
+use crate::lookahead::{FirstToken, Lookahead};
+use crate::role::{ListEnd, Role};
+use crate::token_sink::{Taken, TokenSink};
 use m4_input::delims::Delims;
 use std::alloc::AllocError;
 
 impl TokenSink for OpenCall {
+    type Left = Lookahead;
+
     ghost takes = { IsListRun };
+
+    ghost leaves = { λ left c next s m x. (cs : List Call) → IsNext left (c ∷ cs) next s m x };
 
     #[inline(always)]
     fn take(
         &mut self,
-        token: Lookahead,
+        token: FirstToken,
         text: &[u8],
         at: usize,
         delims: &Delims<'_>,
-    ) -> Result<Result<usize, Lookahead>, AllocError> {
+    ) -> Result<Taken<Lookahead>, AllocError> {
         let (_, text) = text.split_at(at);
         let byte = match token {
-            Lookahead::Byte(byte) => byte,
-            Lookahead::Text(begin, end, all) => {
+            FirstToken::Byte(byte) => byte,
+            FirstToken::Text(begin, end, all) => {
                 self.put_front(text.split_at(begin).1, end - begin)?;
-                return Ok(Ok(at + all));
+                return Ok(Taken::UpTo(at + all));
             }
-            token => return Ok(Err(token)),
+            FirstToken::Other(token) => return Ok(Taken::Left(token)),
         };
         let (_, rest) = text.split_at(1);
         if self.role(byte) == Role::Other {
             let len = 1 + text_len(rest, delims);
             self.put_front(text, len)?;
-            return Ok(Ok(at + len));
+            return Ok(Taken::UpTo(at + len));
         }
-        if let Some(_left) = self.take_byte(byte)? {
-            return Ok(Err(Lookahead::Byte(byte)));
+        match self.take_byte(byte)? {
+            None => {}
+            Some(ListEnd::Argument) => return Ok(Taken::Left(Lookahead::EndsArgument)),
+            Some(ListEnd::List) => return Ok(Taken::Left(Lookahead::ClosesList)),
         }
         if self.has_begun() {
-            return Ok(Ok(at + 1));
+            return Ok(Taken::UpTo(at + 1));
         }
-        Ok(Ok(at + (1 + spaces_len(rest, delims))))
+        Ok(Taken::UpTo(at + (1 + spaces_len(rest, delims))))
     }
 
     ghost none = { λ s m c x. ([], refl, refl) };

@@ -3,7 +3,7 @@
 ghost use Rattle.std.specs.Prelude.{◌≡◌, IfOk};
 ghost use Rattle.m4_input.specs.Look.{scan_of, LookLies};
 ghost use Rattle.m4_input.specs.Token.{scan};
-ghost use Rattle.m4_engine.specs.Lookahead.{IsAhead};
+ghost use Rattle.m4_engine.specs.Lookahead.{IsFirst};
 
 use crate::call::OpenCall;
 use m4_builtins::substitute::is_plain;
@@ -15,17 +15,28 @@ use m4_state::definition::Def;
 use m4_state::state::State;
 use std::alloc::AllocError;
 
-/// The next token. A turn acts on it. It has no text and no call, since a pass moves it often: the call of a name is
-/// made beside it, as the next call.
+/// The first token of a text. It goes where tokens go that call nothing, or a turn acts on it.
 #[derive(Clone, Copy)]
-pub enum Lookahead {
-    /// A definition that a call pushed.
-    Definition,
+pub enum FirstToken {
     /// A string, or a token that is text as it is: a name without a definition, or a comment. Where its text begins and
     /// ends, and the length of all of it.
     Text(usize, usize, usize),
     /// A byte that belongs to no other token.
     Byte(u8),
+    /// Any other token. A turn acts on it.
+    Other(Lookahead),
+}
+
+/// The next token, on which a turn acts. It has no text and no call, since a pass moves it often: the call of a name is
+/// made beside it, as the next call.
+#[derive(Clone, Copy)]
+pub enum Lookahead {
+    /// A definition that a call pushed.
+    Definition,
+    /// A comma that ends an argument of the innermost call, in which definitions are dropped.
+    EndsArgument,
+    /// The parenthesis that closes the list of the innermost call.
+    ClosesList,
     /// The name of a text macro that is called without a list, and whose text has no dollar: its length. The next call
     /// has the text as its definition.
     Expansion(usize),
@@ -42,12 +53,10 @@ pub enum Lookahead {
     Unended(Unended),
     /// The bytes that were looked at don't decide the token, or whether a list follows a name.
     Undecided,
-    /// Not looked at yet: a pass put the text before it.
-    Further,
 }
 
-impl Lookahead {
-    /// Returns the lookahead for the token that this look found, and makes the next call that of a name that calls.
+impl FirstToken {
+    /// Returns the token that this look found, and makes the next call that of a name that calls.
     /// `more` is whether bytes may come after the text. The place of a call is not set yet. Without a list, a text that
     /// has no dollar is its own expansion, and `dnl`, with which many lines end, needs no call in memory.
     #[inline(always)]
@@ -58,41 +67,41 @@ impl Lookahead {
         delims: &Delims<'_>,
         next: &mut OpenCall,
         more: bool,
-    ) -> Result<Lookahead, AllocError>
+    ) -> Result<FirstToken, AllocError>
         requires quotes { delims.now.quotes.now ≡ state.now.quotes }
         requires comments { delims.now.comments.now ≡ state.now.comments }
         requires value { scan state.now.quotes state.now.comments more text.now ≡ scan_of look text.now }
         requires lies { LookLies text.now look }
-        ensures { IfOk result (λ a. IsAhead a next.new state.now more text.now) }
+        ensures { IfOk result (λ a. IsFirst a next.new state.now more text.now) }
     {
         let len = match look {
             Look::Name(len) => len,
-            Look::Byte(byte) => return Ok(Lookahead::Byte(byte)),
-            Look::Quoted(begin, len, all) => return Ok(Lookahead::Text(begin, begin + len, all)),
-            Look::Comment(len) => return Ok(Lookahead::Text(0, len, len)),
-            Look::End => return Ok(Lookahead::End),
-            Look::Unended(what) => return Ok(Lookahead::Unended(what)),
-            Look::NeedsMore => return Ok(Lookahead::Undecided),
+            Look::Byte(byte) => return Ok(FirstToken::Byte(byte)),
+            Look::Quoted(begin, len, all) => return Ok(FirstToken::Text(begin, begin + len, all)),
+            Look::Comment(len) => return Ok(FirstToken::Text(0, len, len)),
+            Look::End => return Ok(FirstToken::Other(Lookahead::End)),
+            Look::Unended(what) => return Ok(FirstToken::Other(Lookahead::Unended(what))),
+            Look::NeedsMore => return Ok(FirstToken::Other(Lookahead::Undecided)),
         };
         let (name, after) = text.split_at(len);
         let Some(definition) = state.top(name) else {
-            return Ok(Lookahead::Text(0, len, len));
+            return Ok(FirstToken::Text(0, len, len));
         };
         match list_follows(after, delims, more) {
             Answer::Yes => {
                 next.renew(text, len, definition)?;
-                Ok(Lookahead::List(len))
+                Ok(FirstToken::Other(Lookahead::List(len)))
             }
-            Answer::Unknown => Ok(Lookahead::Undecided),
+            Answer::Unknown => Ok(FirstToken::Other(Lookahead::Undecided)),
             Answer::No => match definition {
                 Def::Text(body) if is_plain(body.as_slice()) => {
                     next.set_definition(definition)?;
-                    Ok(Lookahead::Expansion(len))
+                    Ok(FirstToken::Other(Lookahead::Expansion(len)))
                 }
-                Def::Builtin(Builtin::Dnl) => Ok(Lookahead::LineSkip(len)),
+                Def::Builtin(Builtin::Dnl) => Ok(FirstToken::Other(Lookahead::LineSkip(len))),
                 _ => {
                     next.renew(text, len, definition)?;
-                    Ok(Lookahead::Call(len))
+                    Ok(FirstToken::Other(Lookahead::Call(len)))
                 }
             },
         }

@@ -4,35 +4,53 @@
 ghost use Rattle.std.proofs.Common.{refl};
 ghost use Rattle.std.specs.Prelude.{◌≡◌, ◌≤◌, Bool, [], length};
 ghost use Rattle.m4_state.specs.State.{State as Specified};
+ghost use Rattle.m4_engine.specs.Lookahead.{IsLeftOutside};
 ghost use Rattle.m4_engine.specs.Plain.{IsPlainRun};
 
-use crate::lookahead::Lookahead;
+use crate::lookahead::{FirstToken, Lookahead};
 use crate::machine::OUTPUT_BLOCK;
-use crate::token_sink::TokenSink;
+use crate::token_sink::{Taken, TokenSink};
 use m4_input::delims::Delims;
 use std::alloc::AllocError;
+
+/// A token that is left outside of calls.
+#[derive(Clone, Copy)]
+pub enum LeftOutside {
+    /// The pass puts its text: where that begins and ends in the token, and the length of the token.
+    Text(usize, usize, usize),
+    /// A turn acts on it.
+    Other(Lookahead),
+}
 
 /// What stands outside of calls. It takes plain tokens up to a block of output, and the pass puts their bytes.
 #[derive(Drop)]
 pub struct Outside;
 
 impl TokenSink for Outside {
+    type Left = LeftOutside;
+
     ghost takes = { λ s m n _ _ x. IsPlainRun s m n x };
+
+    ghost leaves = { λ left _ next s m x. IsLeftOutside left next s m x };
 
     #[inline(always)]
     fn take(
         &mut self,
-        token: Lookahead,
+        token: FirstToken,
         text: &[u8],
         at: usize,
         delims: &Delims<'_>,
-    ) -> Result<Result<usize, Lookahead>, AllocError> {
+    ) -> Result<Taken<LeftOutside>, AllocError> {
         match token {
-            Lookahead::Text(0, end, all) if end == all && at < OUTPUT_BLOCK => {
-                Ok(Ok(with_space(text, at + all, delims)))
+            FirstToken::Text(0, end, all) if end == all && at < OUTPUT_BLOCK => {
+                Ok(Taken::UpTo(with_space(text, at + all, delims)))
             }
-            Lookahead::Byte(_) if at < OUTPUT_BLOCK => Ok(Ok(at + 1)),
-            token => Ok(Err(token)),
+            FirstToken::Byte(_) if at < OUTPUT_BLOCK => Ok(Taken::UpTo(at + 1)),
+            FirstToken::Text(begin, end, all) => {
+                Ok(Taken::Left(LeftOutside::Text(begin, end, all)))
+            }
+            FirstToken::Byte(_) => Ok(Taken::Left(LeftOutside::Text(0, 1, 1))),
+            FirstToken::Other(token) => Ok(Taken::Left(LeftOutside::Other(token))),
         }
     }
 

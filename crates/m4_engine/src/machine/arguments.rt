@@ -1,44 +1,22 @@
-//! Bytes of an argument list that are no other token: each extends an argument, ends it, or closes the list.
+//! The ends of arguments: a comma ends one, and a parenthesis the last one and its list.
 //! Manual: "Macro arguments".
 
-ghost use Rattle.std.specs.Prelude.{◌≡◌, ◌≢◌, [], OnOk, OnErr};
-ghost use Rattle.m4_engine.specs.Engine.{ending_argument, IfHead, KeepsOutput, mode_of, outer_of};
-ghost use Rattle.m4_engine.specs.Turns.{IsTaken, StepsBy, close_in, step};
-ghost use Rattle.m4_engine.specs.Expand.{take_other};
+ghost use Rattle.std.specs.Prelude.{◌≡◌, None, OnOk, OnErr};
+ghost use Rattle.m4_input.specs.Pending.{text_of};
+ghost use Rattle.m4_engine.specs.Engine.{ending_argument, IfHead, IsReady, KeepsOutput};
+ghost use Rattle.m4_engine.specs.Lookahead.{IsEndIn};
+ghost use Rattle.m4_engine.specs.Turns.{Turns};
+ghost use Rattle.m4_engine.specs.declared.role.ListEnd.TheVariants as ends;
 
 use crate::machine::Machine;
-use crate::role::ListEnd;
 use crate::turned::{TurnFault, Turned};
 use m4_builtins::messages::dropped_message;
 use m4_input::input::Input;
 
 impl Machine {
-    /// Acts on a byte that belongs to no other token, by its role in the list or, outside of calls, as text.
-    #[inline(always)]
-    pub(super) fn take_byte(&mut self, byte: u8, input: &mut Input) -> Result<Turned, TurnFault>
-        requires { IsTaken input.old }
-        ensures steps { StepsBy result self.old self.new input.old input.new
-            (λ s. step (outer_of self.old.open_calls) (take_other (mode_of self.old.open_calls) byte s)) }
-        ensures kept { OnErr result (KeepsOutput self.old self.new) }
-    {
-        if self.depth == 0 {
-            self.put_text(&[byte])?;
-            return Ok(Turned::GoesOn);
-        }
-        let call = &mut self.stack[self.depth - 1];
-        match call.take_byte(byte)? {
-            None => Ok(Turned::GoesOn),
-            Some(ListEnd::Argument) => {
-                self.end_argument()?;
-                Ok(Turned::GoesOn)
-            }
-            Some(ListEnd::List) => self.take_closing(input),
-        }
-    }
-
     /// Ends the current argument of the innermost call.
     #[inline(always)]
-    fn end_argument(&mut self) -> Result<(), TurnFault>
+    pub(super) fn end_argument(&mut self) -> Result<(), TurnFault>
         requires { IfHead self.old.open_calls (λ c. c.parentheses ≡ 0) }
         ensures engine { OnOk result (self.new ≡ ending_argument self.old) }
         ensures kept { OnErr result (KeepsOutput self.old self.new) }
@@ -55,17 +33,17 @@ impl Machine {
         Ok(())
     }
 
-    /// Closes the innermost list at its parenthesis, and makes its call.
-    #[tactic(auto, using(crate::proofs::Acts::closing_result))]
+    /// Consumes the parenthesis that comes first and closes the innermost list, and makes the call of that.
     #[inline(always)]
-    fn take_closing(&mut self, input: &mut Input) -> Result<Turned, TurnFault>
-        requires list { IfHead self.old.open_calls (λ c. c.parentheses ≡ 0) }
-        requires inside { self.old.open_calls ≢ [] }
-        requires input { IsTaken input.old }
-        ensures steps { StepsBy result self.old self.new input.old input.new
-            (λ s. step (outer_of self.old.open_calls) (close_in self.old.open_calls s)) }
+    pub(super) fn take_closing(&mut self, input: &mut Input) -> Result<Turned, TurnFault>
+        requires ready { IsReady input.old }
+        requires first { input.old.pending.definition ≡ None }
+        requires closes { IsEndIn ends.List self.old.open_calls self.old.state input.old.pending.may_follow
+            (text_of input.old.pending) }
+        ensures turns { Turns result self.old self.new input.old input.new }
         ensures kept { OnErr result (KeepsOutput self.old self.new) }
     {
+        input.consume(1, true);
         self.end_argument()?;
         self.call(input)
     }

@@ -1,8 +1,8 @@
 //! Expands an input turn by turn. Messages are flushed as they arise, and output once a block of it is
 //! buffered. Manual: "How m4 copies input to output".
 
-ghost use Rattle.std.specs.Prelude.{◌≡◌, ◌<◌, ◌≤◌, true, None, Ok, length, take, drop, OnOk, OnErr};
-ghost use Rattle.m4_state.specs.Device.{with_bytes, one_more};
+ghost use Rattle.std.specs.Prelude.{◌≡◌, ◌<◌, ◌≤◌, true, [], None, Ok, length, take, drop, OnOk, OnErr};
+ghost use Rattle.m4_state.specs.Device.{Puts, count_after, with_bytes, one_more};
 ghost use Rattle.m4_input.specs.Input.{failures_after};
 ghost use Rattle.m4_engine.specs.Engine.{IsReady, after_flush};
 ghost use Rattle.m4_engine.specs.Writers.{both, ByCause, FailsBy, FailsOnce};
@@ -68,6 +68,19 @@ impl Machine {
         Ok(())
     }
 
+    /// Writes the output that passes made, before any message. Not inlined, since a block is written seldom.
+    #[inline(never)]
+    fn write_block<O: ByteSink>(&mut self, out: &mut O) -> Result<(), DeviceFault>
+        requires quiet { self.old.messages ≡ [] }
+        ensures engine { OnOk result (self.new ≡ after_flush self.old) }
+        ensures puts { Puts result (O.contents out.old) (O.contents out.new) self.old.output }
+        ensures counted { O.failures out.new ≡ count_after result (O.failures out.old) }
+    {
+        write_all(out, &self.output)?;
+        self.output.clear();
+        Ok(())
+    }
+
     /// Writes the output of the turns before one that had no memory, the first `earlier` bytes, since the run ends.
     /// That takes no memory. Returns the cause that ends it. Not inlined, since hardly any run calls it.
     #[inline(never)]
@@ -115,6 +128,12 @@ impl Machine {
             let made = self.output.len();
             let Ok(lookahead) = self.pass_plain(input, copy, &mut next) else {
                 return Err(self.give_out(made, out));
+            };
+            let Some(lookahead) = lookahead else {
+                if let Err(DeviceFault) = self.write_block(out) {
+                    return Err(Cause::Write);
+                }
+                continue 'turns;
             };
             let earlier = self.output.len();
             let Ok(turned) = self.turn(lookahead, &mut next, input) else {

@@ -4,15 +4,15 @@
 //! A pass consumes tokens of one text, the bytes at the start of the input. If they leave a token open and others in
 //! hand come after them, the next pass has a longer text.
 
-ghost use Rattle.std.specs.Prelude.{◌≡◌, [], IfOk, OnOk, OnErr};
+ghost use Rattle.std.specs.Prelude.{◌≡◌, None, [], IfOk, IfSome, OnOk, OnErr};
 ghost use Rattle.m4_engine.specs.Engine.{IsReady, KeepsOutput, put_in};
-ghost use Rattle.m4_engine.specs.Passes.{IsLookahead, PassesBy, Passes};
+ghost use Rattle.m4_engine.specs.Passes.{IsFull, IsLookahead, PassesBy, Passes};
 
 use super::OUTPUT_BLOCK;
 use crate::call::OpenCall;
 use crate::lookahead::Lookahead;
 use crate::machine::Machine;
-use crate::outside::Outside;
+use crate::outside::{LeftOutside, Outside};
 use crate::token_sink::pass_tokens;
 use crate::turned::TurnFault;
 use m4_input::input::Input;
@@ -21,52 +21,61 @@ use m4_state::append::append;
 impl Machine {
     /// Consumes leading tokens that need no turn: outside of calls up to a block of plain text, and in a list the
     /// tokens that only extend the innermost call. The effect is that of as many turns. Returns the next token, whose
-    /// call `next` becomes. `copy` is a buffer for a token that spans several texts.
+    /// call `next` becomes, or none if a block of output is full: it is to be flushed first. `copy` is a buffer for a
+    /// token that spans several texts.
     #[inline(always)]
     pub fn pass_plain(
         &mut self,
         input: &mut Input,
         copy: &mut Vec<u8>,
         next: &mut OpenCall,
-    ) -> Result<Lookahead, TurnFault>
+    ) -> Result<Option<Lookahead>, TurnFault>
         requires { IsReady input.old }
         ensures passes { OnOk result (Passes self.old self.new input.old input.new) }
-        ensures lookahead { IfOk result (λ a. IsLookahead a next.new self.new input.new.pending) }
+        ensures lookahead { IfOk result (λ o. IfSome o (λ a. IsLookahead a next.new self.new input.new.pending)) }
+        ensures full { IfOk result (λ o. o ≡ None → IsFull self.new) }
         ensures kept { OnErr result (KeepsOutput self.old self.new) }
     {
         let mut looked = 0;
         'fronts: loop {
             let Some((text, others)) = input.front(looked, copy)? else {
-                return Ok(Lookahead::Definition);
+                return Ok(Some(Lookahead::Definition));
             };
             let more = others | input.may_follow();
             let (len, lookahead) = self.pass_text(text, more, next)?;
             let left = text.len() - len;
             input.consume(len, false);
-            match lookahead {
-                Lookahead::Further => looked = 0,
+            let Some(found) = lookahead else {
+                if self.output.len() >= OUTPUT_BLOCK {
+                    return Ok(None);
+                }
+                looked = 0;
+                continue 'fronts;
+            };
+            match found {
                 Lookahead::Undecided => {
                     if !others {
-                        return Ok(lookahead);
+                        return Ok(Some(found));
                     }
                     // To join few bytes to the next ones takes less time than to copy both.
                     let _joined = left > 0 && input.join();
                     looked = left;
                 }
-                _ => return Ok(lookahead),
+                _ => return Ok(Some(found)),
             }
         }
     }
 
     /// Passes the tokens at the start of a text: in a list it collects them into the innermost call. `more` is whether
-    /// bytes may come after the text. Returns how many bytes were passed, and the lookahead for the token after them.
+    /// bytes may come after the text. Returns how many bytes were passed, and the lookahead for the token after them,
+    /// if it was looked at.
     #[inline(always)]
     fn pass_text(
         &mut self,
         text: &[u8],
         more: bool,
         next: &mut OpenCall,
-    ) -> Result<(usize, Lookahead), TurnFault>
+    ) -> Result<(usize, Option<Lookahead>), TurnFault>
         ensures passes { IfOk result (λ r. PassesBy r.0 r.1 next.new text.now more self.old self.new) }
         ensures kept { OnErr result (KeepsOutput self.old self.new) }
     {
@@ -74,32 +83,33 @@ impl Machine {
             return self.pass_outside(text, more, next);
         }
         let call = &mut self.stack[self.depth - 1];
-        let passed = pass_tokens(call, text, &self.state, next, more)?;
-        Ok(passed)
+        let (len, lookahead) = pass_tokens(call, text, &self.state, next, more)?;
+        Ok((len, Some(lookahead)))
     }
 
-    /// Passes up to a block of tokens outside of calls, and a string after them if no block of output is full. Not
-    /// inlined, so that the loop over plain tokens has all registers.
+    /// Passes up to a block of tokens outside of calls, and the text of one after them if no block of output is full.
+    /// Not inlined, so that the loop over plain tokens has all registers.
     #[inline(never)]
     fn pass_outside(
         &mut self,
         text: &[u8],
         more: bool,
         next: &mut OpenCall,
-    ) -> Result<(usize, Lookahead), TurnFault>
+    ) -> Result<(usize, Option<Lookahead>), TurnFault>
         requires outside { self.old.open_calls ≡ [] }
         ensures passes { IfOk result (λ r. PassesBy r.0 r.1 next.new text.now more self.old self.new) }
         ensures kept { OnErr result (KeepsOutput self.old self.new) }
     {
-        let (len, lookahead) = pass_tokens(&mut Outside, text, &self.state, next, more)?;
+        let (len, left) = pass_tokens(&mut Outside, text, &self.state, next, more)?;
         let (passed, rest) = text.split_at(len);
         self.put_outside(passed)?;
-        match lookahead {
-            Lookahead::Text(begin, end, all) if self.output.len() < OUTPUT_BLOCK => {
+        match left {
+            LeftOutside::Other(lookahead) => Ok((len, Some(lookahead))),
+            LeftOutside::Text(..) if self.output.len() >= OUTPUT_BLOCK => Ok((len, None)),
+            LeftOutside::Text(begin, end, all) => {
                 self.put_text(rest.split_at(begin).1.split_at(end - begin).0)?;
-                Ok((len + all, Lookahead::Further))
+                Ok((len + all, None))
             }
-            _ => Ok((len, lookahead)),
         }
     }
 

@@ -4,9 +4,7 @@
 ghost use Rattle.std.specs.Prelude.{◌≡◌, ◌≢◌, false, None, OnErr, take};
 ghost use Rattle.m4_input.specs.Pending.{text_of};
 ghost use Rattle.m4_engine.specs.Engine.{IsReady, KeepsOutput, allows_call};
-ghost use Rattle.m4_engine.specs.Expansion.{Call};
 ghost use Rattle.m4_engine.specs.Lookahead.{IsCalled, IsNamed, Recognises};
-ghost use Rattle.m4_engine.specs.declared.lookahead.Lookahead.TheVariants as aheads;
 ghost use Rattle.m4_engine.specs.Passes.{IsLookahead};
 ghost use Rattle.m4_engine.specs.Turns.{Turns};
 
@@ -35,10 +33,13 @@ impl Machine {
         ensures kept { OnErr result (KeepsOutput self.old self.new) }
     {
         match lookahead {
-            Lookahead::Byte(byte) => {
-                input.consume(1, byte != b'\n');
-                self.take_byte(byte, input)
+            Lookahead::EndsArgument => {
+                // A comma is no newline.
+                input.consume(1, true);
+                self.end_argument()?;
+                Ok(Turned::GoesOn)
             }
+            Lookahead::ClosesList => self.take_closing(input),
             Lookahead::Expansion(len) => {
                 if !self.allows_call() {
                     return self.refuse_call(len, false, next, input);
@@ -64,37 +65,10 @@ impl Machine {
             Lookahead::Call(len) => self.begin_call(len, false, next, input),
             Lookahead::List(len) => self.begin_call(len, true, next, input),
             Lookahead::Undecided => Ok(Turned::NeedsMore),
-            Lookahead::Text(begin, end, all) => self.take_text(begin, end, all, input),
             Lookahead::Definition => self.take_definition(input),
             Lookahead::End => self.take_end(),
             Lookahead::Unended(what) => self.take_unended(what, input.line(), input),
-            // A pass looks at it.
-            Lookahead::Further => unreachable!(),
         }
-    }
-
-    /// Consumes a token of `all` bytes that is text, and appends its text, from `begin` to `end`, to the argument, the
-    /// output or a diversion. Not inlined, since a pass puts the text unless a block of output is full.
-    #[inline(never)]
-    fn take_text(
-        &mut self,
-        begin: usize,
-        end: usize,
-        all: usize,
-        input: &mut Input,
-    ) -> Result<Turned, TurnFault>
-        requires ready { IsReady input.old }
-        requires lookahead { (next : Call) × IsLookahead (aheads.Text begin end all) next self.old input.old.pending }
-        ensures turns { Turns result self.old self.new input.old input.new }
-        ensures kept { OnErr result (KeepsOutput self.old self.new) }
-    {
-        let mut copy = Vec::new(self.alloc);
-        let Some((text, _)) = input.front(end, &mut copy)? else {
-            unreachable!();
-        };
-        self.put_text(text.split_at(begin).1.split_at(end - begin).0)?;
-        input.consume(all, false);
-        Ok(Turned::GoesOn)
     }
 
     /// Consumes the definition that comes first, and appends it to the innermost argument. Outside of calls it is

@@ -5,6 +5,7 @@ use Rattle.m4_engine.proofs.Running.{begins_so, begins_past, passed, went_on, we
 use Rattle.m4_engine.proofs.Begins.{due_none, due_all}
 use Rattle.m4_engine.proofs.Running.{fell_past_line, ended, needed, needs_line_after, write_breaks}
 use Rattle.m4_engine.proofs.Running.{write_breaks_in_order, in_order_end, needs_line}
+use Rattle.m4_engine.proofs.Running.{breaks, lack_breaks_in_order, filled, filled_on}
 use Rattle.m4_engine.proofs.Running.{line_done_by, hand_ends, lack_gives, lack_gives_in_order, lack_counted}
 use Rattle.m4_engine.proofs.Passing.{passes_ready, passes_messages}
 use Rattle.m4_engine.specs.Engine.{Engine}
@@ -20,8 +21,48 @@ pass_plain-requires g c = c.turns.invariant.runs.ready
 pub turn-requires : goal.turn-requires
 turn-requires g c = record {
   ready = passes_ready c.turns.self c.pass_plain.new.self c.turns.input c.pass_plain.new.input c.turns.invariant.runs.ready c.in-Ok.ensures.passes;
-  lookahead = c.in-Ok.ensures.lookahead;
+  lookahead = search rules;
 }
+
+-- a block of output is full
+pub write_block-requires : goal.write_block-requires
+write_block-requires g c = record {
+  quiet = passes_messages c.turns.self c.pass_plain.new.self c.turns.input c.pass_plain.new.input c.in-Ok.ensures.passes ∙ c.turns.invariant.quiet;
+}
+
+pub returns-in-Err-clause-gives : goal.returns-in-Err-clause-gives
+returns-in-Err-clause-gives g c =
+    let r = passed c.args.wanted c.args.self.now c.turns.self c.pass_plain.new.self c.args.input.now.pending
+    c.turns.input c.pass_plain.new.input _ _ _ _ c.turns.invariant.runs c.in-Ok.ensures.passes in
+    breaks c.args.wanted c.args.self.now c.pass_plain.new.self c.args.input.now.pending c.pass_plain.new.input _ _ _ _ _ r c.in-Err.ensures.puts
+
+pub returns-in-Err-clause-order : goal.returns-in-Err-clause-order
+returns-in-Err-clause-order g c =
+    let r = passed c.args.wanted c.args.self.now c.turns.self c.pass_plain.new.self c.args.input.now.pending
+    c.turns.input c.pass_plain.new.input _ _ _ _ c.turns.invariant.runs c.in-Ok.ensures.passes in
+    lack_breaks_in_order c.args.wanted c.args.self.now c.pass_plain.new.self c.args.input.now.pending c.pass_plain.new.input
+    _ _ _ _ _ r
+    (passes_messages c.turns.self c.pass_plain.new.self c.turns.input c.pass_plain.new.input c.in-Ok.ensures.passes ∙ c.turns.invariant.quiet)
+    c.in-Err.ensures.puts
+
+pub turns-smaller-in_default-lookahead : goal.turns-smaller-in_default-lookahead
+turns-smaller-in_default-lookahead g c = filled c.turns.self c.pass_plain.new.self c.write_block.new.self c.turns.input c.pass_plain.new.input
+    c.in-Ok.ensures.passes c.turns.invariant.few (search rules) c.in_default-write_block.ensures.engine
+
+pub turns-preserved-in_default-lookahead : goal.turns-preserved-in_default-lookahead
+turns-preserved-in_default-lookahead g c =
+    let r = passed c.args.wanted c.args.self.now c.turns.self c.pass_plain.new.self c.args.input.now.pending
+    c.turns.input c.pass_plain.new.input _ _ _ _ c.turns.invariant.runs c.in-Ok.ensures.passes in
+    record {
+      runs = filled_on c.args.wanted c.args.self.now c.pass_plain.new.self c.write_block.new.self c.args.input.now.pending c.pass_plain.new.input
+          _ _ _ _ _ r
+          (passes_messages c.turns.self c.pass_plain.new.self c.turns.input c.pass_plain.new.input c.in-Ok.ensures.passes ∙ c.turns.invariant.quiet)
+          c.in_default-write_block.ensures.engine c.in_default-write_block.ensures.puts;
+      quiet = ap (λ (d : Engine). d.messages) c.in_default-write_block.ensures.engine;
+      few = few_left _ (ap (λ (d : Engine). d.output) c.in_default-write_block.ensures.engine);
+      out = c.in_default-write_block.ensures.counted ∙ c.turns.invariant.out;
+      reported = c.turns.invariant.reported;
+    }
 
 -- a pass or a turn had no memory: what was buffered before it was given out
 pub returns-in_default-clause-gives : goal.returns-in_default-clause-gives
@@ -60,13 +101,13 @@ turns-init g c = record {
   reported = refl;
 }
 
-pub returns-in-Err-clause-gives : goal.returns-in-Err-clause-gives
-returns-in-Err-clause-gives g c =
+pub returns-in-Err-flush-clause-gives : goal.returns-in-Err-flush-clause-gives
+returns-in-Err-flush-clause-gives g c =
     let r = passed c.args.wanted c.args.self.now c.turns.self c.pass_plain.new.self c.args.input.now.pending
     c.turns.input c.pass_plain.new.input _ _ _ _ c.turns.invariant.runs c.in-Ok.ensures.passes in
     write_breaks c.args.wanted c.args.self.now c.pass_plain.new.self c.turn.new.self c.args.input.now.pending
     c.pass_plain.new.input c.turn.new.input c.in-Ok-turn.turned _ _ _ _ _ _ r c.in-Ok-turn.ensures.turns.moves
-    c.in-Ok-turn.ensures.turns.made c.in-Err.ensures.begun
+    c.in-Ok-turn.ensures.turns.made c.in-Err-flush.ensures.begun
 
 pub turns-smaller-in-turns : goal.turns-smaller-in-turns
 turns-smaller-in-turns g c = fell c.turns.self c.pass_plain.new.self c.turn.new.self
@@ -181,8 +222,8 @@ returns-in-Ends-clause-gives g c =
     c.in-Ends.end r c.in-Ok-turn.ensures.turns.moves c.in-Ends.is c.in_default-flush.ensures.engine
     c.in-Ok-turn.ensures.turns.limits c.in_default-flush.ensures.output c.in_default-flush.ensures.messages)
 
-pub returns-in-Err-clause-order : goal.returns-in-Err-clause-order
-returns-in-Err-clause-order g c =
+pub returns-in-Err-flush-clause-order : goal.returns-in-Err-flush-clause-order
+returns-in-Err-flush-clause-order g c =
     let r = passed c.args.wanted c.args.self.now c.turns.self c.pass_plain.new.self c.args.input.now.pending
     c.turns.input c.pass_plain.new.input _ _ _ _ c.turns.invariant.runs c.in-Ok.ensures.passes in
     write_breaks_in_order c.args.wanted c.args.self.now c.pass_plain.new.self c.turn.new.self c.args.input.now.pending
@@ -190,7 +231,7 @@ returns-in-Err-clause-order g c =
     c.in-Ok-turn.ensures.turns.moves c.in-Ok-turn.ensures.turns.made
     (passes_messages c.turns.self c.pass_plain.new.self c.turns.input c.pass_plain.new.input c.in-Ok.ensures.passes
     ∙ c.turns.invariant.quiet)
-    (search rules) c.in-Err.ensures.order
+    (search rules) c.in-Err-flush.ensures.order
 
 pub returns-in-Ends-clause-order : goal.returns-in-Ends-clause-order
 returns-in-Ends-clause-order g c = rw c.cause.ensures (in_order_end c.args.wanted c.args.self.now c.args.input.now.pending _ c.in-Ends.end)

@@ -1,4 +1,4 @@
-use Rattle.std.proofs.Common.{◌≡◌, ◌∙◌, List, [], ℕ, None, Some, Bool, true, false, refl, rules, sym, ap, subst, take}
+use Rattle.std.proofs.Common.{◌≡◌, ◌∙◌, List, [], ℕ, None, Some, false, rules, sym, ap, subst, take}
 use Rattle.m4_state.specs.declared.definition.Def.TheVariants.{Text}
 use Rattle.m4_input.specs.declared.pushed.Pushed.TheVariants as pushes
 use Rattle.m4_engine.specs.Turns.{Pushes}
@@ -6,39 +6,49 @@ use Rattle.m4_input.specs.Pending.{text_of}
 use Rattle.m4_input.specs.Input.{Held, answer_of, longer}
 use Rattle.m4_engine.proofs.Bare.{expanded_goes, text_goes}
 use Rattle.m4_input.specs.Paren.{paren_at}
-use Rattle.m4_input.specs.declared.token.Token.TheVariants.{Name, Byte}
+use Rattle.m4_input.specs.declared.token.Token.TheVariants.{Name}
 use Rattle.m4_input.proofs.Names.{name_has_none}
-use Rattle.std.specs.Prelude.{Ok, not}
-use Rattle.m4_input.proofs.Scanned.{byte_first}
+use Rattle.std.specs.Prelude.{Ok}
+use Rattle.m4_engine.specs.declared.role.ListEnd.TheVariants as ends
+use Rattle.m4_engine.proofs.ListEnds.{argument_turn, end_has_none, end_inside}
 use Rattle.m4_engine.specs.declared.turned.Turned.TheVariants as turns
 use Rattle.m4_engine.specs.declared.lookahead.Lookahead.{Lookahead}
 use Rattle.m4_engine.specs.Engine.{Engine, with_made}
 use Rattle.m4_engine.specs.Passes.{IsLookahead}
 use Rattle.m4_engine.proofs.Fronts.{at_error, front_same}
-use Rattle.m4_engine.proofs.Seen.{byte_has_none, room_allows, list_there, expansion_moves, line_skips}
+use Rattle.m4_engine.proofs.Seen.{room_allows, list_there, expansion_moves, line_skips}
 use Rattle.m4_engine.proofs.Turning.{found_steps_at, end_turn, broken_turn, undecided_turn}
 use Rattle.m4_engine.proofs.machine.Machine.turn.Goals as goal
 
-pub returns-in-Byte-clause-turns : goal.returns-in-Byte-clause-turns
-returns-in-Byte-clause-turns c =
+-- a comma that ends an argument
+pub returns-in_ok-end_argument-in-EndsArgument-clause-turns : goal.returns-in_ok-end_argument-in-EndsArgument-clause-turns
+returns-in_ok-end_argument-in-EndsArgument-clause-turns c =
     let e = c.args.self.now in
     let d = c.args.next.now in
-    let h = subst (λ (v : Lookahead). IsLookahead v d e c.args.input.now.pending) c.in-Byte.is c.requires.lookahead in
-    found_steps_at e c.take_byte.new.self (Byte c.in-Byte.byte) 1 c.args.input.now c.consume.new.self
-    c.take_byte.new.input c.take_byte.result h.0 h.1.0 c.consume.ensures c.take_byte.ensures.steps.moves
-    c.take_byte.ensures.steps
+    let i = c.args.input.now in
+    let k = c.consume.new.self in
+    let h = subst (λ (v : Lookahead). IsLookahead v d e i.pending) c.in-EndsArgument.is c.requires.lookahead in
+    argument_turn e c.end_argument.new.self i k c.requires.ready h.0 h.1 c.consume.ensures c.in_ok-end_argument-in-EndsArgument.ensures.engine
 
-not_so : (v : Bool) → not v ≡ true → v ≡ false
-not_so true h = cc
-not_so false h = refl
-
--- the newlines are counted if the byte is one
+-- a comma is no newline
 pub consume-requires-clause-inline : goal.consume-requires-clause-inline
 consume-requires-clause-inline c = λ u.
     let e = c.args.self.now in
     let p = c.args.input.now.pending in
-    let h = subst (λ (v : Lookahead). IsLookahead v c.args.next.now e p) c.in-Byte.is c.requires.lookahead in
-    byte_has_none c.in-Byte.byte (text_of p) (byte_first e.state.quotes e.state.comments p.may_follow (text_of p) c.in-Byte.byte 1 h.1.0) (not_so _ u)
+    let h = subst (λ (v : Lookahead). IsLookahead v c.args.next.now e p) c.in-EndsArgument.is c.requires.lookahead in
+    end_has_none ends.Argument e.open_calls e.state p.may_follow (text_of p) h.1
+
+-- the innermost call has no open parenthesis in its argument
+pub end_argument-requires : goal.end_argument-requires
+end_argument-requires c =
+    let e = c.args.self.now in
+    let h = subst (λ (v : Lookahead). IsLookahead v c.args.next.now e c.args.input.now.pending) c.in-EndsArgument.is c.requires.lookahead in
+    (end_inside ends.Argument e.open_calls e.state c.args.input.now.pending.may_follow (text_of c.args.input.now.pending) h.1).0
+
+pub take_closing-requires-clause-closes : goal.take_closing-requires-clause-closes
+take_closing-requires-clause-closes c =
+    (subst (λ (v : Lookahead). IsLookahead v c.args.next.now c.args.self.now c.args.input.now.pending) c.in-ClosesList.is
+    c.requires.lookahead).1
 
 text_same : (x y : List ℕ) → Text x ≡ Text y → x ≡ y
 text_same x y e = cc
@@ -57,7 +67,7 @@ returns-in_ok-push_text-in-Expansion-clause-turns c =
     let new = c.begin_argument.new.self in
     let h = subst (λ (v : Lookahead). IsLookahead v d e p) c.in-Expansion.is c.requires.lookahead in
     let text : List ℕ = h.1.1.0 in
-    let same : c.in-Text-definition.text ≡ text = text_same _ _ (sym c.in-Text-definition.is ∙ c.definition.ensures.value ∙ h.1.1.3) in
+    let same : c.in-Text.text ≡ text = text_same _ _ (sym c.in-Text.is ∙ c.definition.ensures.value ∙ h.1.1.3) in
     let rest : q.definition ≡ None = ap (λ (i : Held). (i.pending).definition) c.consume-in-Expansion.ensures in
     let list : paren_at e.state.quotes e.state.comments q ≡ answer_of false =
     list_there e.state.quotes e.state.comments p q n (answer_of false)
@@ -152,10 +162,7 @@ returns-in-Unended-clause-turns c =
     broken_turn e c.take_unended.new.self c.in-Unended.what c.line.result i c.take_unended.result c.requires.ready h.0
     h.1 c.line.ensures c.take_unended.ensures.makes
 
-pub take_text-requires-clause-lookahead : goal.take_text-requires-clause-lookahead
-take_text-requires-clause-lookahead c = (c.args.next.now, search rules)
-
 -- there is no memory for the text: the call was counted
 pub returns-in_err-push_text-in-Expansion-clause-kept : goal.returns-in_err-push_text-in-Expansion-clause-kept
-returns-in_err-push_text-in-Expansion-clause-kept c = at_error c.from_residual.result
+returns-in_err-push_text-in-Expansion-clause-kept c = at_error c.from_residual-in_err-push_text-in-Expansion.result
     (front_same _ _ (ap (λ (d : Engine). d.output) c.count.ensures))

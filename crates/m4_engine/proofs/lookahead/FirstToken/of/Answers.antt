@@ -3,7 +3,7 @@ use Rattle.m4_state.specs.declared.definition.Def.TheVariants.{Text}
 use Rattle.m4_state.specs.State.{top_of}
 use Rattle.m4_builtins.specs.Subst.{subst as substituted}
 use Rattle.m4_engine.specs.Lookahead.{IsNamed}
-use Rattle.m4_engine.proofs.lookahead.Lookahead.of.Goals as goal
+use Rattle.m4_engine.proofs.lookahead.FirstToken.of.Goals as goal
 
 -- a text without a dollar is its own expansion
 pub returns-in_ok-set_definition-in-Text : goal.returns-in_ok-set_definition-in-Text
