@@ -1,6 +1,6 @@
 -- Cases: parts of the builtins' definitions by their cases, which the definitions have in place.
 use Rattle.std.specs.Prelude.{ℕ, ℤ, pos, negsuc, Bool, List, [], ◌++◌, Option, Some, None, length, map, codes}
-use Rattle.std.specs.Prelude.{◌-◌, ◌^◌, if◌then◌else◌}
+use Rattle.std.specs.Prelude.{◌-◌, ◌^◌, if◌then◌else◌, unwrap_or}
 use Rattle.std.specs.Fmt.{decimal}
 use Rattle.m4_state.specs.declared.builtin.Builtin.{Builtin}
 use Rattle.m4_state.specs.declared.builtin.Builtin.TheVariants.{Ifelse}
@@ -18,6 +18,10 @@ use Rattle.m4_builtins.specs.Act.{row, is_above, given_though_few}
 use Rattle.m4_builtins.specs.Indirect.{Inner}
 use Rattle.m4_builtins.specs.Messages.{too_few, excess, out_of_range, unknown_macro, unknown_builtin}
 use Rattle.m4_builtins.specs.Printing.{warnings_on, lines_of, in_byte_order}
+
+-- a text, or an empty one if there is none
+abbrev pub or_empty : Option (List ℕ) → List ℕ
+or_empty o = unwrap_or o []
 
 -- a call with a message before its others
 abbrev pub warned : List ℕ → Acted → Acted

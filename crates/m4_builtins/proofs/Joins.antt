@@ -9,7 +9,9 @@ use Rattle.m4_state.specs.declared.delimiters.Delimiters.{Delimiters}
 use Rattle.m4_input.specs.Ascii.{dollar, digit_zero}
 use Rattle.m4_input.specs.Token.{run_length}
 use Rattle.m4_builtins.specs.declared.args.Arg.{Arg}
-use Rattle.m4_builtins.specs.Args.{joined_by, quoted, text_of_arg, text_of_any, or_empty}
+use Rattle.m4_builtins.specs.Args.{joined_by, quoted, text_of_arg}
+use Rattle.m4_builtins.specs.EffectView.{text_of_any}
+use Rattle.m4_builtins.proofs.Cases.{or_empty}
 use Rattle.m4_builtins.specs.Subst.{subst_from, after_dollar, nth_text}
 use Rattle.m4_builtins.specs.Numbers.{IsNumber}
 

@@ -19,7 +19,8 @@ use Rattle.m4_builtins.specs.declared.args.Arg.{Arg}
 use Rattle.m4_builtins.specs.declared.effect.Effect.{Effect}
 use Rattle.m4_builtins.specs.declared.number.Reading.{Reading}
 use Rattle.m4_builtins.specs.declared.place.Place.{Place}
-use Rattle.m4_builtins.specs.Args.{text_of_arg, texts_of, text_at, or_empty, with_spaces}
+use Rattle.m4_builtins.specs.Args.{text_of_arg, texts_of, text_at, with_spaces}
+use Rattle.m4_builtins.proofs.Cases.{or_empty}
 use Rattle.m4_builtins.specs.Acted.{Acted, nothing, expands, only_warning, warning_first, leaves, changes}
 use Rattle.m4_builtins.specs.Messages.{excess}
 use Rattle.m4_builtins.specs.Numeric.{reading_of, number_of_reading, reading_warning, with_number}

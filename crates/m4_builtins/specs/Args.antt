@@ -1,7 +1,7 @@
 -- Args: the texts and definitions of a call's arguments, by their numbers.
--- Believed. Manual: "Macro arguments". Words: IsArg, text_of_arg, text_of_any, text_at,
+-- Believed. Manual: "Macro arguments". Words: IsArg, text_of_arg, text_at,
 -- texts_of, joined, with_spaces, quoted.
-use Rattle.std.specs.Prelude.{ℕ, List, [], ◌∷◌, ◌++◌, Option, Some, None, slice_get, map, unwrap_or}
+use Rattle.std.specs.Prelude.{ℕ, List, [], ◌∷◌, ◌++◌, slice_get, map, unwrap_or}
 use Rattle.m4_state.specs.Definition.{IsDefinition}
 use Rattle.m4_state.specs.declared.delimiters.Delimiters.{Delimiters}
 use Rattle.m4_input.specs.Ascii.{space}
@@ -18,18 +18,9 @@ abbrev pub text_of_arg : Arg → List ℕ
 text_of_arg (args.Text x) = x
 text_of_arg (args.Definition d) = []
 
--- an argument that may be missing, as text
-abbrev pub text_of_any : Option Arg → List ℕ
-text_of_any None = []
-text_of_any (Some a) = text_of_arg a
-
 -- arguments as texts
 abbrev pub texts_of : List Arg → List (List ℕ)
 texts_of list = map text_of_arg list
-
--- a text, or an empty one if there is none
-abbrev pub or_empty : Option (List ℕ) → List ℕ
-or_empty o = unwrap_or o []
 
 -- the text of the argument at index n, from 0; empty if it is missing
 abbrev pub text_at : List Arg → ℕ → List ℕ

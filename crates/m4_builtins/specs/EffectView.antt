@@ -1,11 +1,18 @@
 -- EffectView: the meaning of the fields of an effect.
--- Not believed: it only connects the code with specs/Acted.antt. Words: effect_view, IsEffect.
-use Rattle.std.specs.Prelude.{◌≡◌, Bool, true, false, List, ℕ, Option, Some}
+-- Not believed: it only connects the code with specs/Acted.antt. Words: text_of_any, effect_view, IsEffect.
+use Rattle.std.specs.Prelude.{◌≡◌, Bool, true, false, List, [], ℕ, Option, Some, None}
 use Rattle.m4_input.specs.declared.pushed.Pushed.{Pushed}
 use Rattle.m4_input.specs.declared.pushed.Pushed.TheVariants as pushes
 use Rattle.m4_builtins.specs.declared.effect_buffer.EffectBuffer.TheInside.{Inside}
 use Rattle.m4_builtins.specs.declared.effect.Effect.{Effect}
+use Rattle.m4_builtins.specs.declared.args.Arg.{Arg}
+use Rattle.m4_builtins.specs.Args.{text_of_arg}
 use Rattle.m4_builtins.specs.Acted.{IsPushed, nothing}
+
+-- an argument that may be missing, as text
+abbrev pub text_of_any : Option Arg → List ℕ
+text_of_any None = []
+text_of_any (Some a) = text_of_arg a
 
 -- the value that is inserted: the text in the buffer, if it was made there
 abbrev pub inserted : Bool → List ℕ → Option Pushed → Option Pushed

@@ -3,7 +3,8 @@
 
 ghost use Rattle.std.specs.Prelude.{◌≡◌, OnOk, option_copied};
 ghost use Rattle.m4_builtins.specs.Acted.{nothing};
-ghost use Rattle.m4_builtins.specs.Args.{texts_of, text_of_any};
+ghost use Rattle.m4_builtins.specs.Args.{texts_of};
+ghost use Rattle.m4_builtins.specs.EffectView.{text_of_any};
 ghost use Rattle.m4_builtins.specs.Branching as spec;
 
 use crate::args::{Arg, argument_at, text_at, text_of};

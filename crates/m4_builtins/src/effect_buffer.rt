@@ -61,7 +61,7 @@ impl EffectBuffer {
     ghost use Rattle.m4_input.specs.declared.pushed.Pushed.TheVariants as pushes;
     ghost use Rattle.m4_state.specs.Definition.{IsDefinition};
     ghost use Rattle.m4_builtins.specs.Acted.{IsPushed, nothing};
-    ghost use Rattle.m4_builtins.specs.Args.{text_of_any};
+    ghost use Rattle.m4_builtins.specs.EffectView.{text_of_any};
     ghost use Rattle.m4_builtins.specs.Subst.{subst};
 
     /// Creates an effect that leaves nothing to do.

@@ -7,7 +7,7 @@ use Rattle.m4_input.specs.Pending.{Pending, name_of, line_of}
 use Rattle.m4_input.specs.Paren.{paren_at}
 use Rattle.m4_input.specs.Input.{answer_of}
 use Rattle.m4_builtins.specs.declared.place.Place.{Place}
-use Rattle.m4_builtins.specs.Args.{or_empty}
+use Rattle.m4_builtins.proofs.Cases.{or_empty}
 use Rattle.m4_builtins.specs.Act.{needs_list}
 use Rattle.m4_engine.specs.Expansion.{Expansion, Kept, place_at}
 use Rattle.m4_engine.specs.Expand.{call, call_of, take_call, take_name}

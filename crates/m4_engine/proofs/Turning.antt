@@ -15,7 +15,7 @@ use Rattle.m4_input.specs.Paren.{paren_in}
 use Rattle.m4_input.specs.Input.{Held, longer}
 use Rattle.m4_input.proofs.Decided.{scan_open, paren_open}
 use Rattle.m4_builtins.specs.declared.place.Place.{Place}
-use Rattle.m4_builtins.specs.Args.{or_empty}
+use Rattle.m4_builtins.proofs.Cases.{or_empty}
 use Rattle.m4_builtins.specs.Messages.{error}
 use Rattle.m4_engine.specs.declared.turned.Turned.{Turned}
 use Rattle.m4_builtins.specs.declared.fault.BuiltinFault.{BuiltinFault as TurnFault}

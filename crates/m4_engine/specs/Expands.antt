@@ -2,8 +2,8 @@
 -- Not believed: it connects the machine with `Session`, which says the same of a source.
 -- Manual: "How m4 copies input to output".
 -- Words: made_before, input_expansion, Expanded, LastAsked, ReadSo, Fell, Expands, ReadsBy, StepBreaks, StepBreaksBy,
--- FlushesPrefix, IsInOrder, FlushesSome, FlushesDue, IsIdle.
-use Rattle.std.specs.Prelude.{◌≡◌, ◌≤◌, ℕ, Bool, true, false, List, [], ◌++◌, ◌⊎◌, Option, None, length}
+-- FlushesPrefix, IsInOrder, FlushesSome, FlushesDue, IsIdle, FailsOnce.
+use Rattle.std.specs.Prelude.{◌≡◌, ◌≤◌, ℕ, Bool, true, false, List, [], ◌++◌, ◌⊎◌, Option, None, Result, Ok, Err, length}
 use Rattle.m4_state.specs.Device.{Script, with_bytes, HasBegun, IsAtFault, one_more}
 use Rattle.m4_input.specs.Pending.{Pending}
 use Rattle.m4_input.specs.Input.{longer, Reads, block}
@@ -16,7 +16,7 @@ use Rattle.m4_engine.specs.Turns.{MayFollow}
 use Rattle.m4_engine.specs.File.{Progress}
 use Rattle.m4_engine.specs.Order.{Breaks, IsBeginning}
 use Rattle.m4_engine.specs.Moments.{IsTurnOf}
-use Rattle.m4_engine.specs.Writers.{Contents, Broken, HasWritten, WroteAtLeast}
+use Rattle.m4_engine.specs.Writers.{Contents, Failures, NoneFailed, OneFailed, Broken, HasWritten, WroteAtLeast}
 
 -- a run so far, if its earlier output and messages were written
 abbrev pub made_before : Engine → RunSoFar
@@ -139,3 +139,8 @@ pub record IsIdle (e : Engine) : Type 0 where
 -- with no open call and empty buffers
 abbrev pub at_rest : Engine → Engine
 at_rest e = record e { open_calls = []; output = []; messages = [] }
+
+-- a flush fails if a writer failed in it
+abbrev pub FailsOnce : {A E : Type 0} → Result A E → Failures → Type 0
+FailsOnce (Ok x) f = NoneFailed f
+FailsOnce (Err e) f = OneFailed f

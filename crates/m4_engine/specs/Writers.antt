@@ -1,7 +1,7 @@
 -- Writers: a call's writers before and after it: the bytes of each, and how often it failed.
 -- Believed: each clause on written bytes cites it. Manual: "Invoking m4".
 -- Words: Both, writers, both, Three, three, all_three, Contents, Failures, NoneFailed, OneFailed, NoneOfThree,
--- IsSpared, OneOfThree, ThreeFailBy, Spares, FailsOnce, ByCause, FailsBy, Broken, HasWritten, WroteAtLeast.
+-- IsSpared, OneOfThree, ThreeFailBy, Spares, ByCause, FailsBy, Broken, HasWritten, WroteAtLeast.
 use Rattle.std.specs.Prelude.{◌≡◌, ℕ, List, ◌++◌, Option, ◌⊎◌, Result, Ok, Err}
 use Rattle.m4_state.specs.Device.{with_bytes, HasBegun, one_more}
 use Rattle.m4_engine.specs.declared.ending.Cause.{Cause}
@@ -45,11 +45,6 @@ abbrev pub OneFailed : Failures → Type 0
 OneFailed f =
     ((f.out_new ≡ one_more f.out_old) × (f.messages_new ≡ f.messages_old))
     ⊎ ((f.out_new ≡ f.out_old) × (f.messages_new ≡ one_more f.messages_old))
-
--- a call fails if a writer failed in it
-abbrev pub FailsOnce : {A E : Type 0} → Result A E → Failures → Type 0
-FailsOnce (Ok x) f = NoneFailed f
-FailsOnce (Err e) f = OneFailed f
 
 -- by a cause: one writer failed if it is a write fault, and otherwise none did
 abbrev pub ByCause : Cause → Type 0 → Type 0 → Type 0

@@ -1,5 +1,5 @@
 -- A directive of the code, as the definitions see it.
--- Believed: each variant keeps its name, its number and the bytes of its strings.
+-- Not believed: each variant keeps its name, its number and the bytes of its strings.
 -- Manual: "Frozen file format". Words: directive_of, IsJoined.
 use Rattle.std.specs.Prelude.{◌≤◌, length, take, drop}
 use Rattle.m4_frozen.specs.declared.directive.Directive.{Directive as CodeDirective}

@@ -22,7 +22,7 @@ use Rattle.m4_engine.specs.WholeRun.{GivesBy, RefusedBy, WroteAll, WrotePrefix}
 use Rattle.m4_tool.specs.declared.followed.Failure.{Failure}
 use Rattle.m4_tool.specs.declared.followed.Failure.TheVariants as failures
 use Rattle.m4_tool.specs.Failure.{failure_line, failure_lines, status_after}
-use Rattle.m4_tool.specs.Line.{refused_line, LineResult, refusals, refusals_by, result_of_run, unreloaded}
+use Rattle.m4_tool.specs.Line.{LineResult, refusals, refusals_by, result_of_run, unreloaded}
 use Rattle.m4_tool.specs.ModeFault.{frozen_line}
 use Rattle.m4_tool.specs.FailureCounts.{Grew}
 use Rattle.m4_tool.specs.LineEnd.{failure_by, failure_of, frozen_failure, AsDefined, BrokeOff, EndsBy, FilesBy}

@@ -1,6 +1,6 @@
 -- Line: what a run over the files of a line gives in a world of files. Its point is `line_result`.
 -- Believed: public contracts cite it. Manual: "Invoking m4", "Command line files", "Fast loading of frozen state".
--- Words: Request, request_of, source_name, sources_in, words_of, all_of, refused_line, Thawed, thaw_in, LineResult,
+-- Words: Request, request_of, source_name, sources_in, words_of, all_of, Thawed, thaw_in, LineResult,
 -- line_result.
 -- own: a frozen file that can't be opened is the only work of its line; standard input is read once.
 use Rattle.std.specs.Prelude.{ℕ, Bool, false, List, [], ◌∷◌, map, Option, Some, None}
@@ -96,11 +96,6 @@ pub record LineResult : Type 0 where
   pub lines : List (List ℕ)
   pub status : ℕ
   pub frozen : List ℕ
-
--- the line of the frozen file, if the run ended because it was refused
-abbrev pub refused_line : List ℕ → Cause → List ℕ
-refused_line file (causes.Frozen fault) = frozen_line file fault
-refused_line file cause = []
 
 -- the line for a frozen file that was refused
 abbrev pub refusals : List ℕ → Cause → List (List ℕ)

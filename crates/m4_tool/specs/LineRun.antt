@@ -1,6 +1,6 @@
 -- LineRun: what the steps of following a line pass to one another.
 -- Not believed: `follow` is stated with the words of Known, Line and LineEnd only, and proved through these.
--- Words: named_of, named_in, RanFiles, AllGrew, FlushedAs, RanCounts, RefusedAs, ClosedAs, CountedBy, RanBy,
+-- Words: refused_line, named_of, named_in, RanFiles, AllGrew, FlushedAs, RanCounts, RefusedAs, ClosedAs, CountedBy, RanBy,
 -- Closes, ModeCloses.
 use Rattle.std.specs.Prelude.{◌≡◌, ◌≢◌, ◌⊎◌, ℕ, Bool, true, false, List, [], ◌∷◌}
 use Rattle.std.specs.Prelude.{Option, Some, None, unwrap_or, option_map}
@@ -21,7 +21,13 @@ use Rattle.m4_tool.specs.Line.{source_name, input_after, refusals, script_at}
 use Rattle.m4_tool.specs.FailureCounts.{AnyRose, Counts, Grew, NoneRose, Rose}
 use Rattle.m4_tool.specs.LineEnd.{failure_of, Seen, HasPrefix, Reports, added_lines}
 use Rattle.m4_tool.specs.LineMode.{closed_lines, closed_status}
+use Rattle.m4_tool.specs.ModeFault.{frozen_line}
 use Rattle.m4_tool.specs.World.{Files, made_file}
+
+-- the line of the frozen file, if the run ended because it was refused
+abbrev pub refused_line : List ℕ → Cause → List ℕ
+refused_line file (causes.Frozen fault) = frozen_line file fault
+refused_line file cause = []
 
 -- a source by its name, with its bytes if it was opened and they are known
 pub record NamedSource : Type 0 where

@@ -2,7 +2,7 @@
 
 ghost use Rattle.std.specs.Prelude.{◌≡◌};
 ghost use Rattle.m4_state.specs.Device.{Puts, count_after};
-ghost use Rattle.m4_tool.specs.Line.{refused_line};
+ghost use Rattle.m4_tool.specs.LineRun.{refused_line};
 ghost use Rattle.m4_tool.specs.LineEnd.{failure_of};
 
 use crate::fault::ModeFault;

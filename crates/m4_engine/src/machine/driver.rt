@@ -5,10 +5,10 @@ ghost use Rattle.std.specs.Prelude.{◌≡◌, ◌<◌, ◌≤◌, true, [], Non
 ghost use Rattle.m4_state.specs.Device.{Puts, count_after, with_bytes, one_more};
 ghost use Rattle.m4_input.specs.Input.{failures_after};
 ghost use Rattle.m4_engine.specs.Engine.{IsReady, after_flush};
-ghost use Rattle.m4_engine.specs.Writers.{both, ByCause, FailsBy, FailsOnce};
+ghost use Rattle.m4_engine.specs.Writers.{both, ByCause, FailsBy};
 ghost use Rattle.m4_engine.specs.Continued.{HandGives, OrderBy, IsFlushed, GivesOut, cause_of};
 ghost use Rattle.m4_engine.specs.ReadsOn.{ReadsOn};
-ghost use Rattle.m4_engine.specs.Expands.{Expands, ReadsBy, StepBreaksBy, FlushesPrefix, IsInOrder, IsIdle, at_rest};
+ghost use Rattle.m4_engine.specs.Expands.{Expands, ReadsBy, StepBreaksBy, FailsOnce, FlushesPrefix, IsInOrder, IsIdle, at_rest};
 
 use crate::call::OpenCall;
 use crate::ending::Cause;
