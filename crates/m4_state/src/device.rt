@@ -4,12 +4,21 @@
 //! They know no bytes of std's readers and writers. Every device counts its failures, so a contract can
 //! state that a read fault is returned only if the reader failed.
 
-ghost use Rattle.std.specs.Prelude.{◌≡◌, ◌<◌, ◌≤◌, ℕ, List, length, take, Option, OnErr, IfOk, Ok};
+ghost use Rattle.std.specs.Prelude.{◌≡◌, ◌<◌, ◌≤◌, ℕ, List, length, take, Option, OnErr, OnOk, IfOk, Ok};
 ghost use Rattle.m4_state.specs.Device.{Script, after_bytes, IsAtEnd, IsAtFault, with_bytes, count_after};
 
 /// A read or a write failed. No byte was read or written.
 #[derive(Clone, Copy)]
 pub struct DeviceFault;
+
+/// Counts a failure of a device, and returns it.
+pub fn fail<T>(failures: &mut u64) -> Result<T, DeviceFault>
+    ensures fault { OnOk result ⊥ }
+    ensures counted { failures.new ≡ count_after result failures.old }
+{
+    *failures = failures.saturating_add(1);
+    Err(DeviceFault)
+}
 
 /// A reader that is passed as `&mut`.
 pub trait ByteSource {

@@ -21,7 +21,7 @@ ghost use Rattle.std.specs.Prelude.{
 };
 ghost use Rattle.m4_state.specs.Device.{after_bytes, with_bytes, count_after, IsAtEnd, IsAtFault};
 
-use crate::device::{ByteSink, ByteSource, DeviceFault};
+use crate::device::{ByteSink, ByteSource, DeviceFault, fail};
 use std::alloc::{AllocError, Global};
 use std::marker::Model;
 
@@ -115,8 +115,7 @@ impl ByteSource for MemSource<'_> {
     {
         let left = self.bytes.len() - self.given;
         if left == 0 && self.fails {
-            self.failures = self.failures.saturating_add(1);
-            return Err(DeviceFault);
+            return fail(&mut self.failures);
         }
         let n = left.min(self.at_most).min(buf.len());
         let from = self.given;
@@ -198,8 +197,7 @@ impl ByteSink for MemSink {
     {
         let left = self.room - self.held.len();
         if left == 0 {
-            self.failures = self.failures.saturating_add(1);
-            return Err(DeviceFault);
+            return fail(&mut self.failures);
         }
         let n = left.min(self.at_most).min(bytes.len());
         self.held.extend_from_slice(&bytes[..n]).unwrap();

@@ -1,7 +1,7 @@
 -- A file that is made when its first byte is written.
 use Rattle.std.proofs.Common.{◌≡◌, ◌<◌, ◌≤◌, ℕ, Bool, true, false, List, [], ◌∷◌, ◌++◌, length, take}
 use Rattle.std.proofs.Common.{Option, Some, None, refl, sym, ap, ◌∙◌, arith}
-use Rattle.std.specs.Prelude.{option_map, unwrap_or, if◌then◌else◌, Result, Ok, Err, OnOk, is_err}
+use Rattle.std.specs.Prelude.{option_map, unwrap_or, if◌then◌else◌, Result, Ok, Err, OnOk, OnErr, is_err}
 use Rattle.std.specs.Option.{ForSome}
 use Rattle.std.specs.Str.{bytes_eq}
 use Rattle.m4_state.specs.Device.{Script, with_bytes}
@@ -115,9 +115,10 @@ takes_more name more before old mid now created b e =
     ∙ ap (λ (o : Option (List ℕ)). with_bytes o more) (sym b.was)
 
 -- a put that failed
-pub takes_none : (name : List ℕ) (before old mid now : Option Files) (created : Bool)
-    → (b : Begun name before old mid created) → now ≡ mid → written true name now ≡ written created name old
-takes_none name before old mid now created b e = written_at name b.bytes before now (e ∙ b.files) ∙ sym b.was
+pub takes_none : {T E : Type 0} (r : Result T E) (name : List ℕ) (before old mid now : Option Files) (created : Bool)
+    → (b : Begun name before old mid created) → now ≡ mid → OnErr r (written true name now ≡ written created name old)
+takes_none (Ok n) name before old mid now created b e = tt
+takes_none (Err f) name before old mid now created b e = written_at name b.bytes before now (e ∙ b.files) ∙ sym b.was
 
 named_more : (name given more bytes : List ℕ) (before mid : Option Files) → mid ≡ option_map (with_file name bytes) before
     → ForSome before (λ _. given ≡ name) → option_map (with_more given more) mid ≡ option_map (with_more name more) mid

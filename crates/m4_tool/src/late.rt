@@ -17,7 +17,7 @@ ghost use Rattle.m4_tool.specs.Unfinished.{HasMarked, LeavesMarked};
 use crate::std_world::StdFiles;
 use crate::world::World;
 use m4_state::bytes::Bytes;
-use m4_state::device::{ByteSink, DeviceFault};
+use m4_state::device::{ByteSink, DeviceFault, fail};
 use std::alloc::Global;
 use std::io;
 use std::marker::{Brand, PhantomData};
@@ -133,16 +133,12 @@ impl<W: World, K: LateStart> ByteSink for LateFile<W, K> {
 
     fn put(&mut self, bytes: &[u8]) -> Result<usize, DeviceFault> {
         if create_once(&mut self.world, self.name.as_slice(), self.created).is_err() {
-            self.failures = self.failures.saturating_add(1);
-            return Err(DeviceFault);
+            return fail(&mut self.failures);
         }
         self.created = true;
         match self.world.append(self.name.as_slice(), bytes) {
             Ok(n) => Ok(n),
-            Err(DeviceFault) => {
-                self.failures = self.failures.saturating_add(1);
-                Err(DeviceFault)
-            }
+            Err(DeviceFault) => fail(&mut self.failures),
         }
     }
 }

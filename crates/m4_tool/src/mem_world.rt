@@ -9,7 +9,7 @@ ghost use Rattle.m4_frozen.specs.Unfinished.{is_marked};
 
 use crate::given::Given;
 use crate::world::{Shows, World};
-use m4_state::device::{ByteSource, DeviceFault};
+use m4_state::device::{ByteSource, DeviceFault, fail};
 use m4_state::memory::{MemSink, MemSource};
 use std::alloc::{AllocError, Global};
 
@@ -113,12 +113,10 @@ impl<'a> World for MemWorld<'a> {
 
     fn create(&mut self, name: &[u8]) -> Result<(), DeviceFault> {
         if !self.makes || self.made.is_some() {
-            self.failures = self.failures.saturating_add(1);
-            return Err(DeviceFault);
+            return fail(&mut self.failures);
         }
         let Ok(copy) = Vec::from_slice(self.alloc, name) else {
-            self.failures = self.failures.saturating_add(1);
-            return Err(DeviceFault);
+            return fail(&mut self.failures);
         };
         self.name = copy;
         self.made = Some(Vec::new(self.alloc));
@@ -127,21 +125,14 @@ impl<'a> World for MemWorld<'a> {
 
     fn append(&mut self, name: &[u8], bytes: &[u8]) -> Result<usize, DeviceFault> {
         if self.name.as_slice() != name {
-            self.failures = self.failures.saturating_add(1);
-            return Err(DeviceFault);
+            return fail(&mut self.failures);
         }
         match &mut self.made {
             Some(made) => match add_marked(made, &mut self.first, bytes) {
                 Ok(()) => Ok(bytes.len()),
-                Err(_refused) => {
-                    self.failures = self.failures.saturating_add(1);
-                    Err(DeviceFault)
-                }
+                Err(_refused) => fail(&mut self.failures),
             },
-            None => {
-                self.failures = self.failures.saturating_add(1);
-                Err(DeviceFault)
-            }
+            None => fail(&mut self.failures),
         }
     }
 

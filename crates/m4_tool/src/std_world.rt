@@ -9,7 +9,7 @@ ghost use Rattle.std.specs.IoError.{error_kind};
 use crate::shared::{FlushBeforeRead, SharedOutputs};
 use crate::sources::FileOrInput;
 use crate::world::{Shows, World};
-use m4_state::device::DeviceFault;
+use m4_state::device::{DeviceFault, fail};
 use m4_state::standard::{StdSink, StdSource};
 use std::alloc::Global;
 use std::cell::Cell;
@@ -281,12 +281,10 @@ impl<'a, R: Files + Alloc<A = Global>, I: Read + Copy, W: Write, E: Write> World
     fn create(&mut self, name: &[u8]) -> Result<(), DeviceFault> {
         // An old file is emptied only if nothing that the run wrote before is lost.
         if !flush_outputs(self.outputs) {
-            self.failures = self.failures.saturating_add(1);
-            return Err(DeviceFault);
+            return fail(&mut self.failures);
         }
         let Ok(path) = std::str::from_utf8(name) else {
-            self.failures = self.failures.saturating_add(1);
-            return Err(DeviceFault);
+            return fail(&mut self.failures);
         };
         match create_file(self.rt, path) {
             Ok((file, begins)) => {
@@ -295,10 +293,7 @@ impl<'a, R: Files + Alloc<A = Global>, I: Read + Copy, W: Write, E: Write> World
                 made.begins = begins;
                 Ok(())
             }
-            Err(_fault) => {
-                self.failures = self.failures.saturating_add(1);
-                Err(DeviceFault)
-            }
+            Err(_fault) => fail(&mut self.failures),
         }
     }
 
@@ -312,10 +307,7 @@ impl<'a, R: Files + Alloc<A = Global>, I: Read + Copy, W: Write, E: Write> World
         };
         match written {
             Ok(n) if n > 0 => Ok(n),
-            _ => {
-                self.failures = self.failures.saturating_add(1);
-                Err(DeviceFault)
-            }
+            _ => fail(&mut self.failures),
         }
     }
 
@@ -324,10 +316,7 @@ impl<'a, R: Files + Alloc<A = Global>, I: Read + Copy, W: Write, E: Write> World
         let failed = self.failures > 0;
         match flush_unmarked(&mut self.made, failed) {
             Ok(()) => Ok(()),
-            Err(_fault) => {
-                self.failures = self.failures.saturating_add(1);
-                Err(DeviceFault)
-            }
+            Err(_fault) => fail(&mut self.failures),
         }
     }
 }

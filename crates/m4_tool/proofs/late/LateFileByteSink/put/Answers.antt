@@ -76,4 +76,4 @@ returns-in-Err-clause-unchanged g c =
     let b = begun_so g.K.LateStart.name g.K.LateStart.before (g.W.World.files s.world)
     (g.W.World.files c.create_once.new.world) s.created c.as_slice.result.now c.create_once.result s.agrees
     (λ f e. c.as_slice.ensures.value ∙ s.named f e) (search rules) c.create_once.ensures.begun in
-    takes_none g.K.LateStart.name g.K.LateStart.before _ _ (g.W.World.files c.append.new.self) s.created b (search rules)
+    takes_none _ g.K.LateStart.name g.K.LateStart.before _ _ (g.W.World.files c.append.new.self) s.created b (search rules)
