@@ -9,7 +9,7 @@ use Rattle.m4_input.specs.declared.front.Scan.TheVariants.{Found}
 use Rattle.m4_input.specs.Token.{scan}
 use Rattle.m4_input.proofs.Consumed.{HasBytes, scan_bytes}
 use Rattle.m4_input.proofs.Scanned.{byte_first}
-use Rattle.m4_engine.specs.Collected.{IsText, IsLone}
+use Rattle.m4_engine.specs.Collected.{IsText}
 use Rattle.m4_engine.specs.Plain.{IsPut, IsPlain, total, ArePlain, IsPlainRun}
 
 -- tokens, and those after them
@@ -37,12 +37,6 @@ plain_text s o n x t h g = plain_one s o n x (inl (subst (λ (z : List ℕ). IsT
 -- a byte
 pub plain_byte : (s : State) (o : Bool) (b : ℕ) (x : List ℕ) → scan s.quotes s.comments o x ≡ Found (Byte b) 1 → IsPlainRun s o 1 x
 plain_byte s o b x h = plain_one s o 1 x (inr (b, h, ap (take 1) (byte_first s.quotes s.comments o x b 1 h)))
-
--- a space more
-pub plain_space : (s : State) (o : Bool) (k : ℕ) (x y : List ℕ) → IsPlainRun s o k x → y ≡ drop k x → y ≡ 32 ∷ drop 1 y
-    → IsLone s.quotes s.comments 32 → IsPlainRun s o (k + 1) x
-plain_space s o k x y r e h b =
-    plain_on s o k 1 x y r e (plain_byte s o 32 y (subst (λ (z : List ℕ). scan s.quotes s.comments o z ≡ Found (Byte 32) 1) (sym h) (b o (drop 1 y))))
 
 -- each token that is text has a byte
 found_some : (q c : Delimiters) (m : Bool) (x : List ℕ) (v : Scan) → scan q c m x ≡ v → HasBytes v

@@ -2,7 +2,7 @@
 -- Believed: each clause on written bytes cites it. Manual: "Invoking m4".
 -- Words: Both, writers, both, Three, three, all_three, Contents, Failures, NoneFailed, OneFailed, NoneOfThree,
 -- IsSpared, OneOfThree, ThreeFailBy, Spares, ByCause, FailsBy, Broken, HasWritten, WroteAtLeast.
-use Rattle.std.specs.Prelude.{◌≡◌, ℕ, List, ◌++◌, Option, ◌⊎◌, Result, Ok, Err}
+use Rattle.std.specs.Prelude.{◌≡◌, ℕ, List, ◌++◌, Option, ◌⊎◌}
 use Rattle.m4_state.specs.Device.{with_bytes, HasBegun, one_more}
 use Rattle.m4_engine.specs.declared.ending.Cause.{Cause}
 use Rattle.m4_engine.specs.declared.ending.Cause.TheVariants as causes

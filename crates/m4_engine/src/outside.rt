@@ -37,13 +37,13 @@ impl TokenSink for Outside {
     fn take(
         &mut self,
         token: FirstToken,
-        text: &[u8],
+        _text: &[u8],
         at: usize,
-        delims: &Delims<'_>,
+        _delims: &Delims<'_>,
     ) -> Result<Taken<LeftOutside>, AllocError> {
         match token {
             FirstToken::Text(0, end, all) if end == all && at < OUTPUT_BLOCK => {
-                Ok(Taken::UpTo(with_space(text, at + all, delims)))
+                Ok(Taken::UpTo(at + all))
             }
             FirstToken::Byte(_) if at < OUTPUT_BLOCK => Ok(Taken::UpTo(at + 1)),
             FirstToken::Text(begin, end, all) => {
@@ -55,21 +55,4 @@ impl TokenSink for Outside {
     }
 
     ghost none = { λ s m c x. ([], tt, refl) };
-}
-
-/// Returns the length of a run of plain tokens and of the space after it, if there is one and no delimiter begins with
-/// it. Most words have a space after them, and to look at it as at any token takes longer.
-#[inline(always)]
-fn with_space(text: &[u8], len: usize, delims: &Delims<'_>) -> usize
-    requires { len ≤ length text.now }
-    ensures plain { (s : Specified) (m : Bool) → IsPlainRun s m len text.now
-        → delims.now.quotes.now ≡ s.quotes → delims.now.comments.now ≡ s.comments
-        → IsPlainRun s m result text.now }
-    ensures more { len ≤ result }
-    ensures within { result ≤ length text.now }
-{
-    match text.split_at(len).1.first() {
-        Some(b' ') if !delims.may_comment(b' ') && !delims.may_quote(b' ') => len + 1,
-        _ => len,
-    }
 }
