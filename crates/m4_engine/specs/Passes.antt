@@ -17,7 +17,7 @@ abbrev pub IfUpTo : {L : Type 0} → Taken L → (ℕ → Type 0) → Type 0
 IfUpTo (takens.UpTo end) P = P end
 IfUpTo (takens.Left token) P = Unit {0}
 
--- P is so of what a token is left for, if a sink left it
+-- P is so of what a sink left, if it left a token
 abbrev pub IfLeft : {L : Type 0} → Taken L → (L → Type 0) → Type 0
 IfLeft (takens.UpTo end) P = Unit {0}
 IfLeft (takens.Left token) P = P token
