@@ -12,6 +12,7 @@ ghost use Rattle.m4_state.specs.Device.{Script, after_bytes, IsAtEnd, IsAtFault,
 pub struct DeviceFault;
 
 /// Counts a failure of a device, and returns it.
+#[doc(hidden)]
 pub fn fail<T>(failures: &mut u64) -> Result<T, DeviceFault>
     ensures fault { OnOk result ⊥ }
     ensures counted { failures.new ≡ count_after result failures.old }
