@@ -10,6 +10,7 @@ use Rattle.m4_builtins.specs.declared.place.Place.{Place}
 use Rattle.m4_builtins.specs.Args.{text_of_arg}
 use Rattle.m4_builtins.specs.Acted.{nothing, only_warning, expands, warning_first}
 use Rattle.m4_builtins.specs.Numeric.{reading_of, number_of_reading, reading_warning, with_number}
+use Rattle.m4_builtins.specs.Warned.{with_messages}
 use Rattle.m4_builtins.specs.Texts.{substr, from_place, at_most}
 use Rattle.m4_builtins.proofs.WithNumber.{with_number-some, with_number-none}
 
@@ -25,21 +26,18 @@ pub read_of : (o r : Option ℤ) (x : List ℕ) (a : Arg) → o ≡ r → o ≡ 
 read_of o r x a is read same =
     sym is ∙ read ∙ ap (λ (y : List ℕ). number_of_reading (reading_of y)) same
 
--- and the messages with the warning on it
-pub warned_of : (p : Place) (old new messages x : List ℕ) (a : Arg) → old ≡ messages
-    → new ≡ old ++ reading_warning p Substr (reading_of x) → x ≡ text_of_arg a → new ≡ messages ++ warning_on p a
-warned_of p old new messages x a was warned same =
-    warned ∙ (λ i. was i ++ reading_warning p Substr (reading_of (same i)))
+-- and the effect with the warning on it
+pub warned_of : (p : Place) (e f : Effect) (messages x : List ℕ) (a : Arg) → e ≡ only_warning messages
+    → f ≡ with_messages e (reading_warning p Substr (reading_of x)) → x ≡ text_of_arg a → f ≡ only_warning (messages ++ warning_on p a)
+warned_of p e f messages x a was warned same =
+    warned ∙ (λ i. with_messages (was i) (reading_warning p Substr (reading_of (same i))))
 
--- what is left where a text is pushed, and messages are added at the end
-pub pushed_with : (r e : Effect) (messages warnings text part : List ℕ) → r ≡ warning_first warnings (expands part)
-    → e ≡ record nothing { push = Some (pushes.Text text) } → text ≡ part → messages ≡ warnings
-    → r ≡ record e { messages = messages }
-pushed_with r e messages warnings text part gives effect same warned =
-    gives
-    ∙ ap (λ (x : List ℕ). (record nothing { push = Some (pushes.Text part); messages = x })) (append-nil warnings)
-    ∙ (λ i. (record nothing { push = Some (pushes.Text (sym same i)); messages = sym warned i }))
-    ∙ ap (λ (f : Effect). (record f { messages = messages })) (sym effect)
+-- a part is pushed after warnings
+pub pushed_with : (e f : Effect) (warnings text part : List ℕ) → e ≡ only_warning warnings
+    → f ≡ record e { push = Some (pushes.Text text) } → text ≡ part → warning_first warnings (expands part) ≡ f
+pushed_with e f warnings text part was gives same =
+    ap (λ (x : List ℕ). (record nothing { push = Some (pushes.Text part); messages = x })) (append-nil warnings)
+    ∙ sym (gives ∙ (λ i. record (was i) { push = Some (pushes.Text (same i)) }))
 
 -- a part of a text, by the arguments after its place
 abbrev counted : Place → List Arg → List ℕ → Effect

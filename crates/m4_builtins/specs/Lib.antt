@@ -15,6 +15,7 @@ pub mod Translit
 pub mod ByteTable
 pub mod Ending
 pub mod Eval
+pub mod Warned
 pub mod ReadsAs
 pub mod Indirect
 pub mod Act
@@ -22,4 +23,3 @@ pub mod Steps
 pub mod Numbers
 pub mod EffectView
 pub mod QuotesView
-pub mod Warned

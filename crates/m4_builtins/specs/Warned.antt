@@ -1,6 +1,7 @@
--- Warned: the warnings of the code, each as a message of Messages.
--- Not believed: it only connects the code with specs/Messages.antt. Words: warned_of.
-use Rattle.std.specs.Prelude.{ℕ, List}
+-- Warned: the warnings of the code, each as a message of Messages, and an effect to which some are added.
+-- Not believed: it only connects the code with specs/Messages.antt. Words: warned_of, with_messages.
+use Rattle.std.specs.Prelude.{ℕ, List, ◌++◌}
+use Rattle.m4_builtins.specs.declared.effect.Effect.{Effect}
 use Rattle.m4_builtins.specs.declared.messages.Warning.{Warning}
 use Rattle.m4_builtins.specs.declared.messages.Warning.TheVariants as about
 use Rattle.m4_builtins.specs.declared.place.Place.{Place}
@@ -22,3 +23,7 @@ warned_of p about.DivideByZero = divide_by_zero p
 warned_of p about.BadExpression = bad_expression p
 warned_of p about.BadStatus = bad_status p
 warned_of p about.OutOfRange = out_of_range p
+
+-- the same effect with more messages after its own
+abbrev pub with_messages : Effect → List ℕ → Effect
+with_messages e more = record e { messages = e.messages ++ more }

@@ -117,7 +117,7 @@ fn act_builtin<'a>(
     match step {
         Step::Done => {
             let warning = warning_line(effect.alloc(), place, Warning::Excess(builtin))?;
-            effect.warn_first(warning)?;
+            effect.add_message_first(warning)?;
             Ok(Step::Done)
         }
         Step::On(..) => Ok(step),

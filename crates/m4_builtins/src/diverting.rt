@@ -6,6 +6,7 @@ ghost use Rattle.m4_state.specs.declared.builtin.Builtin.TheVariants as builtins
 ghost use Rattle.m4_builtins.specs.Acted.{nothing};
 ghost use Rattle.m4_builtins.specs.Diverting as spec;
 ghost use Rattle.m4_builtins.specs.Numeric.{number_of_reading, reading_warning};
+ghost use Rattle.m4_builtins.specs.Warned.{with_messages};
 
 use crate::args::{Arg, text_of};
 use crate::effect_buffer::EffectBuffer;
@@ -52,15 +53,13 @@ pub(crate) fn undivert(
         ≡ record { state = state.new; effect = effect.new }) }
 {
     let alloc = effect.alloc();
-    let mut messages = Vec::new(alloc);
     let mut output = Vec::new(alloc);
     if list.is_empty() {
         let numbers = held_numbers(alloc, state)?;
         bring_back(numbers.as_slice(), state, &mut output)?;
     } else {
-        bring_back_each(alloc, list, place, state, &mut messages, &mut output)?;
+        bring_back_each(effect, list, place, state, &mut output)?;
     }
-    effect.warn(messages);
     effect.set_output(output);
     Ok(())
 }
@@ -90,22 +89,21 @@ fn held_numbers(alloc: Global, state: &State) -> Result<Vec<i32>, AllocError>
 /// Undiverts the diversions whose numbers the arguments are, one after another, and appends their text to the output.
 /// Adds the warnings on arguments that are no numbers.
 fn bring_back_each(
-    alloc: Global,
+    effect: &mut EffectBuffer,
     list: &[Arg],
     place: &Place,
     state: &mut State,
-    messages: &mut Vec<u8>,
     output: &mut Vec<u8>,
 ) -> Result<(), BuiltinFault>
     ensures state { OnOk result (state.new
         ≡ spec.brought_back (filter_map number_of_reading (spec.readings_of list.now)) state.old) }
     ensures output { OnOk result (output.new.items ≡ output.old.items
         ++ spec.issued_by_all (filter_map number_of_reading (spec.readings_of list.now)) state.old) }
-    ensures warns { OnOk result (messages.new.items
-        ≡ messages.old.items ++ flat_map (reading_warning place.now builtins.Undivert) (spec.readings_of list.now)) }
+    ensures warns { OnOk result (effect.new ≡ with_messages effect.old
+        (flat_map (reading_warning place.now builtins.Undivert) (spec.readings_of list.now))) }
 {
     for arg in list {
-        if let Some(number) = number_in(alloc, text_of(arg), place, Builtin::Undivert, messages)? {
+        if let Some(number) = number_in(effect, text_of(arg), place, Builtin::Undivert)? {
             bring_back(&[number], state, output)?;
         }
     }

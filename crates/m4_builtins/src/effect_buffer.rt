@@ -315,17 +315,21 @@ impl EffectBuffer {
         self.push = Some(Pushed::Definition(definition));
     }
 
-    /// Sets the messages.
-    pub(crate) fn warn(&mut self, messages: Vec<u8>)
-        ensures { self.new ≡ record self.old { messages = messages.items } }
+    /// Appends messages.
+    pub(crate) fn add_messages(&mut self, messages: Vec<u8>) -> Result<(), AllocError>
+        ensures { OnOk result (self.new ≡ record self.old { messages = self.old.messages ++ messages.items }) }
     {
-        // Builtins that read numbers always set them, and mostly there are none.
-        self.has_more |= !messages.is_empty();
-        self.messages = messages;
+        if self.messages.is_empty() {
+            self.has_more |= !messages.is_empty();
+            self.messages = messages;
+            return Ok(());
+        }
+        self.has_more = true;
+        self.messages.extend_from_slice(&messages)
     }
 
     /// Inserts a message before the others.
-    pub(crate) fn warn_first(&mut self, message: Vec<u8>) -> Result<(), AllocError>
+    pub(crate) fn add_message_first(&mut self, message: Vec<u8>) -> Result<(), AllocError>
         ensures { OnOk result (self.new ≡ record self.old { messages = message.items ++ self.old.messages }) }
     {
         let mut messages = message;

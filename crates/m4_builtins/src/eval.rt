@@ -9,7 +9,7 @@ ghost use Rattle.m4_builtins.specs.ReadsAs.{ReadsAs};
 
 use crate::args::{Arg, text_at, text_of};
 use crate::effect_buffer::EffectBuffer;
-use crate::messages::{Warning, append_warning};
+use crate::messages::{Warning, warn};
 use crate::number::number_in;
 use crate::place::Place;
 use m4_eval::blank::is_blank;
@@ -17,7 +17,7 @@ use m4_eval::digits::in_radix;
 use m4_eval::evaluate::{Evaluated, evaluate};
 use m4_eval::radix::Radix;
 use m4_state::builtin::Builtin;
-use std::alloc::{AllocError, Global};
+use std::alloc::AllocError;
 
 /// Expands to the value of the first argument, in the radix of the second one, with at least as many
 /// digits as the third one says. The first invalid argument ends the call with a warning. Manual:
@@ -26,35 +26,31 @@ pub(crate) fn eval(effect: &mut EffectBuffer, list: &[Arg], place: &Place) -> Re
     requires { effect.old ≡ nothing }
     ensures { OnOk result (effect.new ≡ spec.eval list.now place.now) }
 {
-    let alloc = effect.alloc();
-    let mut messages = Vec::new(alloc);
     let buffer = effect.buffer();
-    if let Some(digits) = digits_in(alloc, buffer, list, place, &mut messages)? {
+    if let Some(digits) = digits_in(effect, buffer, list, place)? {
         effect.give(digits);
     }
-    effect.warn(messages);
     Ok(())
 }
 
 /// Returns the digits of the expression's value, in the memory of a buffer; none if an argument is invalid.
 /// Adds the warnings to the messages.
 fn digits_in(
-    alloc: Global,
+    effect: &mut EffectBuffer,
     buffer: Vec<u8>,
     list: &[Arg],
     place: &Place,
-    messages: &mut Vec<u8>,
 ) -> Result<Option<Vec<u8>>, AllocError>
     ensures { IfOk result (λ digits. ReadsAs (spec.with_digits list.now place.now)
-        (option_map (λ v. v.items) digits) messages.old.items messages.new.items) }
+        (option_map (λ v. v.items) digits) effect.old effect.new) }
 {
-    let Some(radix) = radix_in(alloc, text_at(list, 1), place, messages)? else {
+    let Some(radix) = radix_in(effect, text_at(list, 1), place)? else {
         return Ok(None);
     };
-    let Some(width) = width_in(alloc, list.get(2), place, messages)? else {
+    let Some(width) = width_in(effect, list.get(2), place)? else {
         return Ok(None);
     };
-    let Some(value) = value_in(alloc, text_at(list, 0), place, messages)? else {
+    let Some(value) = value_in(effect, text_at(list, 0), place)? else {
         return Ok(None);
     };
     Ok(Some(in_radix(buffer, value, radix, width)?))
@@ -62,47 +58,44 @@ fn digits_in(
 
 /// Returns the radix: 10 if its argument is missing or empty, none if it is invalid.
 fn radix_in(
-    alloc: Global,
+    effect: &mut EffectBuffer,
     text: &[u8],
     place: &Place,
-    messages: &mut Vec<u8>,
 ) -> Result<Option<Radix>, AllocError>
-    ensures { IfOk result (λ radix. ReadsAs (spec.with_radix place.now text.now) radix messages.old.items
-        messages.new.items) }
+    ensures { IfOk result (λ radix. ReadsAs (spec.with_radix place.now text.now) radix effect.old effect.new) }
 {
     if text.is_empty() {
         return Ok(Some(Radix::decimal()));
     }
-    let Some(number) = number_in(alloc, text, place, Builtin::Eval, messages)? else {
+    let Some(number) = number_in(effect, text, place, Builtin::Eval)? else {
         return Ok(None);
     };
     let radix = Radix::new(number);
     if radix.is_none() {
-        append_warning(alloc, place, Warning::OutOfRange, messages)?;
+        warn(effect, place, Warning::OutOfRange)?;
     }
     Ok(radix)
 }
 
 /// Returns the minimum number of digits: 0 if its argument is missing, none if it is invalid.
 fn width_in(
-    alloc: Global,
+    effect: &mut EffectBuffer,
     arg: Option<&Arg>,
     place: &Place,
-    messages: &mut Vec<u8>,
 ) -> Result<Option<usize>, AllocError>
     ensures { IfOk result (λ width. ReadsAs (spec.with_width place.now
-        (option_map text_of_arg (option_copied arg.entry))) width messages.old.items messages.new.items) }
+        (option_map text_of_arg (option_copied arg.entry))) width effect.old effect.new) }
 {
     let Some(arg) = arg else {
         return Ok(Some(0));
     };
-    let Some(number) = number_in(alloc, text_of(arg), place, Builtin::Eval, messages)? else {
+    let Some(number) = number_in(effect, text_of(arg), place, Builtin::Eval)? else {
         return Ok(None);
     };
     match usize::try_from(number) {
         Ok(width) => Ok(Some(width)),
         Err(_negative) => {
-            append_warning(alloc, place, Warning::OutOfRange, messages)?;
+            warn(effect, place, Warning::OutOfRange)?;
             Ok(None)
         }
     }
@@ -111,23 +104,21 @@ fn width_in(
 /// Returns the value of an expression: 0 if it is empty or only white space, none if it has no
 /// value.
 fn value_in(
-    alloc: Global,
+    effect: &mut EffectBuffer,
     text: &[u8],
     place: &Place,
-    messages: &mut Vec<u8>,
 ) -> Result<Option<i32>, AllocError>
-    ensures { IfOk result (λ value. ReadsAs (spec.with_expression place.now text.now) value messages.old.items
-        messages.new.items) }
+    ensures { IfOk result (λ value. ReadsAs (spec.with_expression place.now text.now) value effect.old effect.new) }
 {
     if is_blank(text) {
-        append_warning(alloc, place, Warning::EmptyNumber(Builtin::Eval), messages)?;
+        warn(effect, place, Warning::EmptyNumber(Builtin::Eval))?;
         return Ok(Some(0));
     }
-    let warning = match evaluate(alloc, text)? {
+    let warning = match evaluate(effect.alloc(), text)? {
         Evaluated::Value(value) => return Ok(Some(value)),
         Evaluated::DivideByZero => Warning::DivideByZero,
         Evaluated::BadExpression => Warning::BadExpression,
     };
-    append_warning(alloc, place, warning, messages)?;
+    warn(effect, place, warning)?;
     Ok(None)
 }

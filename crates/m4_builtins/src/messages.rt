@@ -33,30 +33,17 @@ pub fn dropped_message(alloc: Global, place: &Place) -> Result<Bytes, BuiltinFau
     Ok(Bytes::from(warning_line(alloc, place, Warning::Dropped)?))
 }
 
-/// Sets the messages of an effect to a warning.
+/// Adds a warning to the messages of an effect.
 pub(crate) fn warn(
     effect: &mut EffectBuffer,
     place: &Place,
     about: Warning<'_>,
 ) -> Result<(), AllocError>
-    ensures { OnOk result (effect.new ≡ record effect.old { messages = warned_of place.now about.entry }) }
+    ensures { OnOk result (effect.new ≡ record effect.old
+        { messages = effect.old.messages ++ warned_of place.now about.entry }) }
 {
     let line = warning_line(effect.alloc(), place, about)?;
-    effect.warn(line);
-    Ok(())
-}
-
-/// Appends a warning to messages.
-pub(crate) fn append_warning(
-    alloc: Global,
-    place: &Place,
-    about: Warning<'_>,
-    messages: &mut Vec<u8>,
-) -> Result<(), AllocError>
-    ensures { OnOk result (messages.new.items ≡ messages.old.items ++ warned_of place.now about.entry) }
-{
-    let line = warning_line(alloc, place, about)?;
-    messages.extend_from_slice(&line)
+    effect.add_messages(line)
 }
 
 /// What a warning is about: a builtin of the table, or a name that the input or a frozen file has.

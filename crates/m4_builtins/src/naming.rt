@@ -10,19 +10,20 @@ ghost use Rattle.m4_builtins.specs.QuotesView.{pair_of};
 ghost use Rattle.m4_builtins.specs.Acted.{nothing};
 ghost use Rattle.m4_builtins.specs.Args.{IsArg, text_of_arg, quoted};
 ghost use Rattle.m4_builtins.specs.NameRead.{ReadsName};
+ghost use Rattle.m4_builtins.specs.Warned.{with_messages};
 ghost use Rattle.m4_builtins.specs.Naming as spec;
 
 use crate::args::{Arg, text_of};
 use crate::effect_buffer::EffectBuffer;
 use crate::fault::BuiltinFault;
-use crate::messages::{Warning, append_warning, warn};
+use crate::messages::{Warning, warn};
 use crate::place::Place;
 use crate::substitute::push_one_quoted;
 use m4_state::builtin::Builtin;
 use m4_state::bytes::Bytes;
 use m4_state::definition::Def;
 use m4_state::state::State;
-use std::alloc::{AllocError, Global};
+use std::alloc::AllocError;
 
 /// Defines the first argument, a name, as the second one. Manual: "Defining a macro".
 pub(crate) fn define(
@@ -133,12 +134,9 @@ pub(crate) fn defn(
             Ok(())
         }
         [..] => {
-            let alloc = effect.alloc();
             let mut texts = effect.buffer();
-            let mut warnings = Vec::new(alloc);
-            push_texts(alloc, list, place, state, &mut texts, &mut warnings)?;
+            push_texts(effect, list, place, state, &mut texts)?;
             effect.give(texts);
-            effect.warn(warnings);
             Ok(())
         }
     }
@@ -172,50 +170,42 @@ fn give_definition(
 
 /// Appends the texts of names, each between quotes, and a warning on each builtin or placeholder.
 fn push_texts(
-    alloc: Global,
+    effect: &mut EffectBuffer,
     list: &[Arg],
     place: &Place,
     state: &State,
     texts: &mut Vec<u8>,
-    warnings: &mut Vec<u8>,
 ) -> Result<(), BuiltinFault>
     ensures texts { OnOk result (texts.new.items
         ≡ texts.old.items ++ flat_map (spec.text_given state.now.quotes) (spec.tops_of state.now list.now)) }
-    ensures warnings { OnOk result (warnings.new.items
-        ≡ warnings.old.items ++ flat_map (spec.left_out place.now) (spec.tops_of state.now list.now)) }
+    ensures warns { OnOk result (effect.new ≡ with_messages effect.old
+        (flat_map (spec.left_out place.now) (spec.tops_of state.now list.now))) }
 {
     for arg in list {
-        push_text_of(
-            alloc,
-            state.top(text_of(arg)),
-            place,
-            state.quotes(),
-            texts,
-            warnings,
-        )?;
+        let def = state.top(text_of(arg));
+        push_text_of(effect, def, place, state.quotes(), texts)?;
     }
     Ok(())
 }
 
 /// Appends the text of a definition, or the warning that it is left out.
 fn push_text_of(
-    alloc: Global,
+    effect: &mut EffectBuffer,
     def: Option<&Def>,
     place: &Place,
     quotes: (&[u8], &[u8]),
     texts: &mut Vec<u8>,
-    warnings: &mut Vec<u8>,
 ) -> Result<(), BuiltinFault>
     ensures texts { OnOk result (texts.new.items ≡ texts.old.items ++ spec.text_given (pair_of quotes.entry)
         (option_copied def.entry)) }
-    ensures warnings { OnOk result (warnings.new.items ≡ warnings.old.items ++ spec.left_out place.now
-        (option_copied def.entry)) }
+    ensures warns { OnOk result (effect.new ≡ with_messages effect.old
+        (spec.left_out place.now (option_copied def.entry))) }
 {
     match def {
         None => {}
         Some(Def::Text(defined)) => push_one_quoted(texts, defined.as_slice(), quotes)?,
         Some(Def::Builtin(_)) | Some(Def::Placeholder(_)) => {
-            append_warning(alloc, place, Warning::Dropped, warnings)?;
+            warn(effect, place, Warning::Dropped)?;
         }
     }
     Ok(())

@@ -8,12 +8,12 @@ ghost use Rattle.m4_builtins.specs.Numeric as spec;
 
 use crate::args::{Arg, text_at};
 use crate::effect_buffer::EffectBuffer;
-use crate::messages::{Warning, append_warning};
+use crate::messages::{Warning, warn};
 use crate::place::Place;
 use crate::substitute::{digits_len, number_of};
 use m4_eval::blank::spaces_len;
 use m4_state::builtin::Builtin;
-use std::alloc::{AllocError, Global};
+use std::alloc::AllocError;
 
 /// The result of reading a numeric argument.
 #[derive(Clone, Copy)]
@@ -40,7 +40,7 @@ pub(crate) fn reading_of(text: &[u8]) -> Reading
     }
 }
 
-/// Returns the number of the first argument, if it has one. Sets the warning on it.
+/// Returns the number of the first argument, if it has one. Adds the warning on it to the messages.
 pub(crate) fn first_number(
     effect: &mut EffectBuffer,
     list: &[Arg],
@@ -52,38 +52,28 @@ pub(crate) fn first_number(
     ensures warns { OnOk result (effect.new
         ≡ only_warning (spec.reading_warning place.now builtin (spec.reading_of (text_at list.now 0)))) }
 {
-    let text = text_at(list, 0);
-    // Most arguments are numbers, and then there is no message to make.
-    if let Reading::Number(number) = reading_of(text) {
-        return Ok(Some(number));
-    }
-    let alloc = effect.alloc();
-    let mut messages = Vec::new(alloc);
-    let number = number_in(alloc, text, place, builtin, &mut messages)?;
-    effect.warn(messages);
-    Ok(number)
+    number_in(effect, text_at(list, 0), place, builtin)
 }
 
 /// Returns the number of an argument, if it has one. Adds the warning on it to the messages.
 pub(crate) fn number_in(
-    alloc: Global,
+    effect: &mut EffectBuffer,
     text: &[u8],
     place: &Place,
     builtin: Builtin,
-    messages: &mut Vec<u8>,
 ) -> Result<Option<i32>, AllocError>
     ensures number { IfOk result (λ n. n ≡ spec.number_of_reading (spec.reading_of text.now)) }
-    ensures warns { OnOk result (messages.new.items
-        ≡ messages.old.items ++ spec.reading_warning place.now builtin (spec.reading_of text.now)) }
+    ensures warns { OnOk result (effect.new ≡ record effect.old
+        { messages = effect.old.messages ++ spec.reading_warning place.now builtin (spec.reading_of text.now) }) }
 {
     match reading_of(text) {
         Reading::Number(number) => Ok(Some(number)),
         Reading::Empty => {
-            append_warning(alloc, place, Warning::EmptyNumber(builtin), messages)?;
+            warn(effect, place, Warning::EmptyNumber(builtin))?;
             Ok(Some(0))
         }
         Reading::NotNumeric => {
-            append_warning(alloc, place, Warning::NotNumeric(builtin), messages)?;
+            warn(effect, place, Warning::NotNumeric(builtin))?;
             Ok(None)
         }
     }

@@ -6,11 +6,12 @@ ghost use Rattle.m4_builtins.specs.QuotesView.{pair_of};
 ghost use Rattle.m4_builtins.specs.Acted.{nothing};
 ghost use Rattle.m4_builtins.specs.Printing as spec;
 ghost use Rattle.m4_builtins.specs.Args.{texts_of};
+ghost use Rattle.m4_builtins.specs.Warned.{with_messages};
 
 use crate::args::{Arg, text_of};
 use crate::effect_buffer::EffectBuffer;
 use crate::fault::BuiltinFault;
-use crate::messages::{Warning, append_warning};
+use crate::messages::{Warning, warn};
 use crate::place::Place;
 use crate::substitute::{push_joined, push_one_quoted};
 use itoa::Buffer;
@@ -34,11 +35,11 @@ pub(crate) fn dumpdef(
     let alloc = effect.alloc();
     // All memory for names is allocated before the first message is made.
     let mut names = names_shown(alloc, list, state)?;
-    let mut messages = Vec::new(alloc);
-    push_warnings(alloc, names.as_slice(), place, state, &mut messages)?;
+    push_warnings(effect, names.as_slice(), place, state)?;
     names.sort_unstable_by(|a, b| a.as_slice().cmp(b.as_slice()));
-    push_lines(names.as_slice(), state, &mut messages)?;
-    effect.warn(messages);
+    let mut lines = Vec::new(alloc);
+    push_lines(names.as_slice(), state, &mut lines)?;
+    effect.add_messages(lines)?;
     Ok(())
 }
 
@@ -65,36 +66,34 @@ fn copied_texts(alloc: Global, list: &[Arg]) -> Result<Vec<Bytes>, AllocError>
 
 /// Appends the warnings on names without a definition.
 fn push_warnings(
-    alloc: Global,
+    effect: &mut EffectBuffer,
     names: &[Bytes],
     place: &Place,
     state: &State,
-    messages: &mut Vec<u8>,
 ) -> Result<(), AllocError>
-    ensures { OnOk result (messages.new.items ≡ messages.old.items ++ spec.warnings_on names.now place.now state.now) }
+    ensures { OnOk result (effect.new ≡ with_messages effect.old (spec.warnings_on names.now place.now state.now)) }
 {
     for name in names {
         let name = name.as_slice();
-        push_warning(alloc, name, state.top(name), place, messages)?;
+        push_warning(effect, name, state.top(name), place)?;
     }
     Ok(())
 }
 
 /// Appends the warning on a name, if it has no definition.
 fn push_warning(
-    alloc: Global,
+    effect: &mut EffectBuffer,
     name: &[u8],
     def: Option<&Def>,
     place: &Place,
-    messages: &mut Vec<u8>,
 ) -> Result<(), AllocError>
-    ensures { OnOk result (messages.new.items
-        ≡ messages.old.items ++ spec.unknown_if place.now name.now (option_copied def.entry)) }
+    ensures { OnOk result (effect.new ≡ with_messages effect.old
+        (spec.unknown_if place.now name.now (option_copied def.entry))) }
 {
     if def.is_some() {
         return Ok(());
     }
-    append_warning(alloc, place, Warning::UnknownMacro(name), messages)
+    warn(effect, place, Warning::UnknownMacro(name))
 }
 
 /// Appends the lines of names that have a definition.
@@ -154,11 +153,9 @@ pub(crate) fn errprint(effect: &mut EffectBuffer, list: &[Arg]) -> Result<(), Al
     requires { effect.old ≡ nothing }
     ensures { OnOk result (effect.new ≡ spec.errprint list.now) }
 {
-    let alloc = effect.alloc();
-    let mut text = Vec::new(alloc);
+    let mut text = Vec::new(effect.alloc());
     push_joined(&mut text, list, b' ')?;
-    effect.warn(text);
-    Ok(())
+    effect.add_messages(text)
 }
 
 /// Expands to the name of the input between quotes; to an empty one in wrapped text, whose line is 0.

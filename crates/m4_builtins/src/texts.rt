@@ -49,25 +49,17 @@ pub(crate) fn substr(
     let [text, from, counts @ ..] = list else {
         return Ok(());
     };
-    let alloc = effect.alloc();
-    let mut messages = Vec::new(alloc);
-    let number = number_in(alloc, text_of(from), place, Builtin::Substr, &mut messages)?;
-    let Some(from) = number else {
-        effect.warn(messages);
+    let Some(from) = number_in(effect, text_of(from), place, Builtin::Substr)? else {
         return Ok(());
     };
     let mut part = from_place(text_of(text), from);
     if let [count, ..] = counts {
-        let number = number_in(alloc, text_of(count), place, Builtin::Substr, &mut messages)?;
-        let Some(count) = number else {
-            effect.warn(messages);
+        let Some(count) = number_in(effect, text_of(count), place, Builtin::Substr)? else {
             return Ok(());
         };
         part = at_most(part, count);
     }
-    effect.give_copy(part)?;
-    effect.warn(messages);
-    Ok(())
+    effect.give_copy(part)
 }
 
 /// Returns the bytes from a place on; none if the place is negative, or after the end of the text.

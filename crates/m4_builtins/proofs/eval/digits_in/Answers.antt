@@ -15,11 +15,11 @@ returns-in_default-2 c =
     let list = c.args.list.now in
     let third : option_map text_of_arg (option_copied c.get.result) ≡ slice_get (texts_of list) 2 =
     third_text list c.get.result _ c.get.ensures.lookup.3 c.get.ensures.lookup.1 in
-    let r = reads_same (with_radix p) _ (text_at list 1) _ (Some c.in-Some.radix) c.args.messages.now.items
-    c.radix_in.new.messages.items c.text_at.ensures (search rules) c.in_ok-radix.ensures in
-    let w = reads_same (with_width p) _ (slice_get (texts_of list) 2) _ None c.radix_in.new.messages.items
-    c.width_in.new.messages.items third (search rules) c.in_ok-width.ensures in
-    width_missing p list c.in-Some.radix c.args.messages.now.items c.radix_in.new.messages.items c.width_in.new.messages.items r w
+    let r = reads_same (with_radix p) _ (text_at list 1) _ (Some c.in-Some.radix) c.args.effect.now
+    c.radix_in.new.effect c.text_at.ensures (search rules) c.in_ok-radix.ensures in
+    let w = reads_same (with_width p) _ (slice_get (texts_of list) 2) _ None c.radix_in.new.effect
+    c.width_in.new.effect third (search rules) c.in_ok-width.ensures in
+    width_missing p list c.in-Some.radix c.args.effect.now c.radix_in.new.effect c.width_in.new.effect r w
 
 pub returns-in_default-3 : goal.returns-in_default-3
 returns-in_default-3 c =
@@ -27,14 +27,14 @@ returns-in_default-3 c =
     let list = c.args.list.now in
     let third : option_map text_of_arg (option_copied c.get.result) ≡ slice_get (texts_of list) 2 =
     third_text list c.get.result _ c.get.ensures.lookup.3 c.get.ensures.lookup.1 in
-    let r = reads_same (with_radix p) _ (text_at list 1) _ (Some c.in-Some.radix) c.args.messages.now.items
-    c.radix_in.new.messages.items c.text_at.ensures (search rules) c.in_ok-radix.ensures in
+    let r = reads_same (with_radix p) _ (text_at list 1) _ (Some c.in-Some.radix) c.args.effect.now
+    c.radix_in.new.effect c.text_at.ensures (search rules) c.in_ok-radix.ensures in
     let w = reads_same (with_width p) _ (slice_get (texts_of list) 2) _ (Some c.in-Some-2.width)
-    c.radix_in.new.messages.items c.width_in.new.messages.items third (search rules) c.in_ok-width.ensures in
-    let v = reads_same (with_expression p) _ (text_at list 0) _ None c.width_in.new.messages.items
-    c.value_in.new.messages.items c.text_at-2.ensures (search rules) c.in_ok-value.ensures in
-    digits_read p list c.in-Some.radix c.in-Some-2.width None c.args.messages.now.items c.radix_in.new.messages.items
-    c.width_in.new.messages.items c.value_in.new.messages.items r w v
+    c.radix_in.new.effect c.width_in.new.effect third (search rules) c.in_ok-width.ensures in
+    let v = reads_same (with_expression p) _ (text_at list 0) _ None c.width_in.new.effect
+    c.value_in.new.effect c.text_at-2.ensures (search rules) c.in_ok-value.ensures in
+    digits_read p list c.in-Some.radix c.in-Some-2.width None c.args.effect.now c.radix_in.new.effect
+    c.width_in.new.effect c.value_in.new.effect r w v
 
 pub returns : goal.returns
 returns c =
@@ -45,12 +45,12 @@ returns c =
     let written = rw (to_z-of_z w32 n fits) at c.in_ok-in_radix.ensures.text in
     let third : option_map text_of_arg (option_copied c.get.result) ≡ slice_get (texts_of list) 2 =
     third_text list c.get.result _ c.get.ensures.lookup.3 c.get.ensures.lookup.1 in
-    let r = reads_same (with_radix p) _ (text_at list 1) _ (Some c.in-Some.radix) c.args.messages.now.items
-    c.radix_in.new.messages.items c.text_at.ensures (search rules) c.in_ok-radix.ensures in
+    let r = reads_same (with_radix p) _ (text_at list 1) _ (Some c.in-Some.radix) c.args.effect.now
+    c.radix_in.new.effect c.text_at.ensures (search rules) c.in_ok-radix.ensures in
     let w = reads_same (with_width p) _ (slice_get (texts_of list) 2) _ (Some c.in-Some-2.width)
-    c.radix_in.new.messages.items c.width_in.new.messages.items third (search rules) c.in_ok-width.ensures in
-    let v = reads_same (with_expression p) _ (text_at list 0) _ (Some n) c.width_in.new.messages.items
-    c.value_in.new.messages.items c.text_at-2.ensures (search rules) c.in_ok-value.ensures in
-    subst (λ (x : List ℕ). ReadsAs (with_digits list p) (Some x) c.args.messages.now.items c.value_in.new.messages.items) (sym written)
-    (digits_read p list c.in-Some.radix c.in-Some-2.width (Some n) c.args.messages.now.items
-    c.radix_in.new.messages.items c.width_in.new.messages.items c.value_in.new.messages.items r w v)
+    c.radix_in.new.effect c.width_in.new.effect third (search rules) c.in_ok-width.ensures in
+    let v = reads_same (with_expression p) _ (text_at list 0) _ (Some n) c.width_in.new.effect
+    c.value_in.new.effect c.text_at-2.ensures (search rules) c.in_ok-value.ensures in
+    subst (λ (x : List ℕ). ReadsAs (with_digits list p) (Some x) c.args.effect.now c.value_in.new.effect) (sym written)
+    (digits_read p list c.in-Some.radix c.in-Some-2.width (Some n) c.args.effect.now
+    c.radix_in.new.effect c.width_in.new.effect c.value_in.new.effect r w v)

@@ -8,5 +8,5 @@ loop-arg-preserved c = grind (arith, common_steps)
 pub returns-clause-texts : goal.returns-clause-texts
 returns-clause-texts c = grind (arith, common_steps)
 
-pub returns-clause-warnings : goal.returns-clause-warnings
-returns-clause-warnings c = grind (arith, common_steps)
+pub returns-clause-warns : goal.returns-clause-warns
+returns-clause-warns c = grind (arith, common_steps)
