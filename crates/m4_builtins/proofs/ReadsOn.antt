@@ -31,7 +31,8 @@ pub reads_at_once : {A : Type 0} (x : A) (before : Effect) → ReadsAs (λ does.
 reads_at_once x before = ([], sym (no_messages before), (λ does. refl))
 
 -- a fault, and its warning
-pub reads_wrong : {A : Type 0} (warning : List ℕ) (before now : Effect) → now ≡ with_messages before warning → ReadsAs {A = A} (λ does. only_warning warning) None before now
+pub reads_wrong : {A : Type 0} (warning : List ℕ) (before now : Effect)
+    → now ≡ with_messages before warning → ReadsAs {A = A} (λ does. only_warning warning) None before now
 reads_wrong warning before now grown = (warning, grown, (λ does. refl))
 
 -- what comes first is wrong, and nothing is read after it
