@@ -27,7 +27,7 @@ use Rattle.m4_tool.specs.ModeFault.{frozen_line}
 use Rattle.m4_tool.specs.FailureCounts.{Grew}
 use Rattle.m4_tool.specs.LineEnd.{failure_by, failure_of, frozen_failure, AsDefined, BrokeOff, EndsBy, FilesBy}
 use Rattle.m4_tool.specs.LineEnd.{HasPrefix, RefusesAs, Reports, Seen, added_lines}
-use Rattle.m4_tool.specs.LineRun.{Closes, CountedBy, RanBy, RanFiles, failure_after}
+use Rattle.m4_tool.specs.LineRun.{refused_line, Closes, CountedBy, RanBy, RanFiles, failure_after}
 use Rattle.m4_tool.specs.World.{Files, made_file}
 use Rattle.m4_tool.proofs.Counts.{before_reported, grew_none, grew_one, grew_then, reported_by, reported_grew}
 use Rattle.m4_engine.proofs.Cases.{result_by}
