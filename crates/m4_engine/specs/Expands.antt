@@ -3,7 +3,8 @@
 -- Manual: "How m4 copies input to output".
 -- Words: made_before, input_expansion, Expanded, LastAsked, ReadSo, Fell, Expands, ReadsBy, StepBreaks, StepBreaksBy,
 -- FlushesPrefix, IsInOrder, FlushesSome, FlushesDue, IsIdle, FailsOnce.
-use Rattle.std.specs.Prelude.{◌≡◌, ◌≤◌, ℕ, Bool, true, false, List, [], ◌++◌, ◌⊎◌, Option, None, Result, Ok, Err, length}
+use Rattle.std.specs.Prelude.{◌≡◌, ◌≤◌, ℕ, Bool, true, false, List, [], ◌++◌, ◌⊎◌, Option, None, length}
+use Rattle.std.specs.Prelude.{Result, Ok, Err}
 use Rattle.m4_state.specs.Device.{Script, with_bytes, HasBegun, IsAtFault, one_more}
 use Rattle.m4_input.specs.Pending.{Pending}
 use Rattle.m4_input.specs.Input.{longer, Reads, block}

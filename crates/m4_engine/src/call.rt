@@ -23,9 +23,9 @@ use m4_state::definition::Def;
 use std::alloc::{AllocError, Global};
 use std::marker::Model;
 
-/// A call whose list is not closed yet: its definition, name and place as they were when its name was read, the complete
-/// arguments, and the part of the next one that was read. So no open call changes if a definition does. The first
-/// `count` arguments are complete. The others are of earlier calls, and are kept for their memory.
+/// A call whose list is not closed yet: its definition, name and place as they were when its name was read, the
+/// complete arguments, and the part of the next one that was read. So no open call changes if a definition does. The
+/// first `count` arguments are complete. The others are of earlier calls, and are kept for their memory.
 #[derive(Drop)]
 pub struct OpenCall {
     definition: Def,

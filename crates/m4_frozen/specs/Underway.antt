@@ -1,7 +1,8 @@
 -- Underway: the part of a file that was read so far, if its bytes arrive block by block.
 -- Not believed: private contracts cite it; `read_frozen` states the same for whole files.
 -- Words: IsTextAt, Skips, HasRead, ReadsOne, PausesAt, Advances.
-use Rattle.std.specs.Prelude.{◌≡◌, IsTrue, ℕ, ℤ, ◌+◌, ◌-◌, ◌^◌, ◌<◌, ◌≤◌, Bool, true, false, List, [], ◌∷◌, ◌++◌, length, take, drop}
+use Rattle.std.specs.Prelude.{◌≡◌, IsTrue, ℕ, ℤ, ◌+◌, ◌-◌, ◌^◌, ◌<◌, ◌≤◌, Bool, true, false}
+use Rattle.std.specs.Prelude.{List, [], ◌∷◌, ◌++◌, length, take, drop}
 use Rattle.std.specs.Prelude.{Option, Some, None, IfSome, Result, Ok, Err, ◌⊎◌}
 use Rattle.std.specs.Borrow.{Bor}
 use Rattle.m4_state.specs.State.{diverted, appended}
@@ -57,7 +58,8 @@ pub record IsTextAt (middle len : ℕ) (strings bytes : List ℕ) : Type 0 where
   pub spelled : bytes ≡ line ++ strings
   pub within : middle + len < length strings
   pub at : IsAtDirective false bytes
-  pub gives : next_at bytes ≡ Ok (Some (Text (take middle strings) (take len (drop middle strings)), drop (middle + len + 1) strings))
+  pub gives : next_at bytes
+      ≡ Ok (Some (Text (take middle strings) (take len (drop middle strings)), drop (middle + len + 1) strings))
 
 -- lines at the start are skipped: the rest is read as if it came after them
 pub record Skips (inside : Bool) (bytes : List ℕ) (later : Bool) (rest : List ℕ) : Type 0 where

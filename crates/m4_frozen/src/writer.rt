@@ -76,7 +76,8 @@ fn put_directives<W: ByteSink>(
     pairs: &[NamedStack],
     writer: &mut W,
 ) -> Result<(), DeviceFault>
-    ensures puts { Puts result (W.contents writer.old) (W.contents writer.new) (steps.directives_text state.now pairs.now) }
+    ensures puts { Puts result (W.contents writer.old) (W.contents writer.new)
+        (steps.directives_text state.now pairs.now) }
     ensures counted { W.failures writer.new ≡ count_after result (W.failures writer.old) }
 {
     put_settings(state, writer)?;
@@ -235,7 +236,8 @@ fn put_gathered<W: ByteSink>(
     gathered: &mut Gathered,
     writer: &mut W,
 ) -> Result<(), DeviceFault>
-    ensures puts { Puts result (W.contents writer.old) (W.contents writer.new) (texts.two_strings letter first.now second.now) }
+    ensures puts { Puts result (W.contents writer.old) (W.contents writer.new)
+        (texts.two_strings letter first.now second.now) }
     ensures counted { W.failures writer.new ≡ count_after result (W.failures writer.old) }
 {
     gathered.clear();
@@ -281,7 +283,8 @@ fn put_long<W: ByteSink>(
     second: &[u8],
     writer: &mut W,
 ) -> Result<(), DeviceFault>
-    ensures puts { Puts result (W.contents writer.old) (W.contents writer.new) (texts.two_strings letter first.now second.now) }
+    ensures puts { Puts result (W.contents writer.old) (W.contents writer.new)
+        (texts.two_strings letter first.now second.now) }
     ensures counted { W.failures writer.new ≡ count_after result (W.failures writer.old) }
 {
     let mut first_length = Buffer::new();
@@ -336,7 +339,8 @@ fn gather_second(gathered: &mut Gathered, second: &[u8]) -> Result<(), CapacityE
 
 /// Writes `D`, a number, a length and a text.
 fn put_diversion<W: ByteSink>(number: i32, text: &[u8], writer: &mut W) -> Result<(), DeviceFault>
-    ensures puts { Puts result (W.contents writer.old) (W.contents writer.new) (texts.spelling (directives.Diversion number text.now)) }
+    ensures puts { Puts result (W.contents writer.old) (W.contents writer.new)
+        (texts.spelling (directives.Diversion number text.now)) }
     ensures counted { W.failures writer.new ≡ count_after result (W.failures writer.old) }
 {
     let mut digits = Buffer::new();

@@ -34,8 +34,8 @@ impl Ranked {
     }
 }
 
-/// Sorts entries by their names: by eight bytes after those that all of them begin with, and then each run of those that
-/// have the same eight. After `depth` such turns names are compared as they are.
+/// Sorts entries by their names: by eight bytes after those that all of them begin with, and then each run of those
+/// that have the same eight. After `depth` such turns names are compared as they are.
 pub(crate) fn sort_by_names(entries: &Entries, run: &mut [Ranked], depth: u32)
     ensures permutation { IsPermutation (map (λ r. r.place) run.old) (map (λ r. r.place) run.new) }
     ensures sorted { IsSortedBy (λ x y. is_lt (byte_order (name_at entries.now.entries x.place)

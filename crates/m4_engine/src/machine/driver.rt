@@ -8,7 +8,8 @@ ghost use Rattle.m4_engine.specs.Engine.{IsReady, after_flush};
 ghost use Rattle.m4_engine.specs.Writers.{both, ByCause, FailsBy};
 ghost use Rattle.m4_engine.specs.Continued.{HandGives, OrderBy, IsFlushed, GivesOut, cause_of};
 ghost use Rattle.m4_engine.specs.ReadsOn.{ReadsOn};
-ghost use Rattle.m4_engine.specs.Expands.{Expands, ReadsBy, StepBreaksBy, FailsOnce, FlushesPrefix, IsInOrder, IsIdle, at_rest};
+ghost use Rattle.m4_engine.specs.Expands.{Expands, ReadsBy, StepBreaksBy, FailsOnce, FlushesPrefix, IsInOrder};
+ghost use Rattle.m4_engine.specs.Expands.{IsIdle, at_rest};
 
 use crate::call::OpenCall;
 use crate::ending::Cause;
