@@ -78,7 +78,7 @@ pub fn pass_tokens<K: TokenSink>(
     let mut len = 0;
     'tokens: loop {
         let rest = text.split_at(len).1;
-        // Each look has a lookahead of its own: one for both is slower.
+        // Each of the three looks has a token of its own: with one for all, lists take longer.
         if let Some(look) = plain_token(rest, &delims, more) {
             let token = FirstToken::of(look, rest, state, &delims, next, more)?;
             match sink.take(token, text, len, &delims)? {
