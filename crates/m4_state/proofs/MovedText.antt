@@ -1,5 +1,5 @@
 -- A text that is moved to another number: if that has none, its place is taken first, with an empty text.
-use Rattle.std.proofs.Common.{◌≡◌, ◌≢◌, ◌<◌, ◌^◌, ℕ, ℤ, Bool, true, false, cond, not, T, List, [], ◌++◌, length, Option}
+use Rattle.std.proofs.Common.{◌≡◌, ◌≢◌, ◌<◌, ◌^◌, ℕ, ℤ, Bool, false, cond, not, List, [], ◌++◌, length, Option}
 use Rattle.std.proofs.Common.{Some, None, unwrap_or, Ordering, Less, Equal, Greater, refl, sym, ap, subst, ◌∙◌}
 use Rattle.std.specs.Prelude.{IsTrue, Vec, FitsSigned, Result, Ok, Err, OnOk, OnErr, option_map}
 use Rattle.std.specs.Int.{w32}
@@ -13,24 +13,11 @@ use Rattle.std.specs.FinMap.Entries.{find-put, is_sorted-put, is_sorted-where_ke
 use Rattle.std.specs.declared.alloc.Global.{Global}
 use Rattle.m4_state.specs.DiversionEntries.{texts_of}
 use Rattle.m4_state.specs.State.{NumberedText, AreDiversions, AreSizedDiversions, holds_text, diverted_text, with_text, without_text}
+use Rattle.m4_state.proofs.Pairs.{holds_T, sorted_put}
 use Rattle.m4_state.proofs.TextsByNumber.{insert-texts_of, with_text-some, AreDiversions-put, AreSizedDiversions-put}
 use Rattle.m4_state.proofs.StaysInOrder.{AreDiversions-without}
 use Rattle.m4_state.proofs.Undiverted.{diverted_text-without, without-put, find-without, find-of_texts, AreSizedDiversions-without}
 use Rattle.m4_state.proofs.CallerLaws.{put-put}
-
-sorted_T : (ds : List NumberedText) → IsTrue (is_sorted int_cmp ds) → T (is_sorted int_cmp ds)
-sorted_T ds h = subst T (sym h) tt
-
-true_of : (b : Bool) → T b → IsTrue b
-true_of true h = refl
-true_of false h = absurd h
-
--- a map stays sorted
-pub sorted_put : (c : ℤ) (x : List ℕ) (ds : List NumberedText) → IsTrue (is_sorted int_cmp ds) → IsTrue (is_sorted int_cmp (put int_cmp c x ds))
-sorted_put c x ds h = true_of _ (is_sorted-put int_cmp int_cmp_total c x ds (sorted_T ds h))
-
-pub sorted_without : (n : ℤ) (ds : List NumberedText) → IsTrue (is_sorted int_cmp ds) → IsTrue (is_sorted int_cmp (without_text ds n))
-sorted_without n ds h = true_of _ (is_sorted-where_key int_cmp (λ q. not (int_eq n q)) ds (sorted_T ds h))
 
 abbrev Text : Type 0
 Text = Vec ℕ Global
@@ -49,7 +36,7 @@ module _ (n c : ℤ) (es fs : List Entry) (v : Text) (sorted : IsTrue (is_sorted
   placed = ap texts_of written ∙ insert-texts_of es c v ∙ ap (λ (x : List ℕ). put int_cmp c x (texts_of es)) empty
 
   pub placed_sorted : IsTrue (is_sorted int_cmp (texts_of fs))
-  placed_sorted = subst (λ (ds : List NumberedText). IsTrue (is_sorted int_cmp ds)) (sym placed) (sorted_put c [] (texts_of es) sorted)
+  placed_sorted = subst (λ (ds : List NumberedText). IsTrue (is_sorted int_cmp ds)) (sym placed) (sorted_put int_cmp int_cmp_total c [] (texts_of es) sorted)
 
   -- the other text is found as before
   found_before : find int_cmp n (texts_of fs) ≡ find int_cmp n (texts_of es)
@@ -114,8 +101,8 @@ moved_text n c ds sorted apart some =
 without-put_itself : (n : ℤ) (x : List ℕ) (ds : List NumberedText) → IsTrue (is_sorted int_cmp ds) → without_text (put int_cmp n x ds) n ≡ without_text ds n
 without-put_itself n x ds h =
     same_entries int_cmp int_cmp_total int_cmp-IsAntisymmetric (without_text (put int_cmp n x ds) n) (without_text ds n)
-    (is_sorted-where_key int_cmp (λ q. not (int_eq n q)) (put int_cmp n x ds) (is_sorted-put int_cmp int_cmp_total n x ds (sorted_T ds h)))
-    (is_sorted-where_key int_cmp (λ q. not (int_eq n q)) ds (sorted_T ds h))
+    (is_sorted-where_key int_cmp (λ q. not (int_eq n q)) (put int_cmp n x ds) (is_sorted-put int_cmp int_cmp_total n x ds (holds_T _ h)))
+    (is_sorted-where_key int_cmp (λ q. not (int_eq n q)) ds (holds_T _ h))
     found
   where
     by : (q : ℤ) (r : Ordering) → int_cmp q n ≡ r
@@ -140,7 +127,7 @@ without-put_itself n x ds h =
 put_itself : (n : ℤ) (x : List ℕ) (ds : List NumberedText) → IsTrue (is_sorted int_cmp ds) → find int_cmp n ds ≡ Some x → put int_cmp n x ds ≡ ds
 put_itself n x ds h is =
     same_entries int_cmp int_cmp_total int_cmp-IsAntisymmetric (put int_cmp n x ds) ds
-    (is_sorted-put int_cmp int_cmp_total n x ds (sorted_T ds h)) (sorted_T ds h) found
+    (is_sorted-put int_cmp int_cmp_total n x ds (holds_T _ h)) (holds_T _ h) found
   where
     by : (q : ℤ) (r : Ordering) → int_cmp q n ≡ r → cond (is_eq r) (Some x) (find int_cmp q ds) ≡ find int_cmp q ds
     by q Less e = refl
@@ -164,7 +151,7 @@ module _ (n c : ℤ) (ds : List NumberedText) (sorted : IsTrue (is_sorted int_cm
     out = written ∙ ap (λ (x : List ℕ). put int_cmp n x ds) is_empty
 
     pub out_sorted : IsTrue (is_sorted int_cmp es)
-    out_sorted = subst (λ (x : List NumberedText). IsTrue (is_sorted int_cmp x)) (sym out) (sorted_put n [] ds sorted)
+    out_sorted = subst (λ (x : List NumberedText). IsTrue (is_sorted int_cmp x)) (sym out) (sorted_put int_cmp int_cmp_total n [] ds sorted)
 
     -- the other text is as before
     other_text : diverted_text es c ≡ diverted_text ds c
@@ -201,7 +188,7 @@ module _ (n c : ℤ) (ds : List NumberedText) (sorted : IsTrue (is_sorted int_cm
       added_text = ap (λ (x : List ℕ). x ++ text) other_text ∙ ap (λ (x : List ℕ). diverted_text ds c ++ x) is
 
       pub added_sorted : IsTrue (is_sorted int_cmp fs)
-      added_sorted = subst (λ (x : List NumberedText). IsTrue (is_sorted int_cmp x)) (sym added) (sorted_put c (diverted_text es c ++ text) es out_sorted)
+      added_sorted = subst (λ (x : List NumberedText). IsTrue (is_sorted int_cmp x)) (sym added) (sorted_put int_cmp int_cmp_total c (diverted_text es c ++ text) es out_sorted)
 
       pub is_joined : (gs : List NumberedText) → gs ≡ without_text fs n → gs ≡ put int_cmp c (diverted_text ds c ++ diverted_text ds n) (without_text ds n)
       is_joined gs left =

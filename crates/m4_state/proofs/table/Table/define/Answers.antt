@@ -1,20 +1,51 @@
-use Rattle.std.proofs.Common.{List, ℕ, ◌≡◌, true, ◌++◌, ◌∷◌, []}
-use Rattle.m4_state.specs.Table.{Pairs, IsTable, IsSizedTable, stack_at, but_last}
+use Rattle.std.proofs.Common.{refl, ap, arith}
 use Rattle.m4_state.specs.Entries.{in_order}
-use Rattle.m4_state.specs.Marks.{is_marked}
-use Rattle.m4_state.proofs.Marked.{marked_either, kept_either, put_marked}
+use Rattle.m4_state.proofs.AtPlace.{top_there, same_there, top_alone, OnErr-map}
+use Rattle.m4_state.proofs.Marked.{kept_either, top_kept}
 use Rattle.m4_state.proofs.table.Table.define.Goals as goal
+
+-- the name was there
+pub returns-in-Some-clause-ok : goal.returns-in-Some-clause-ok
+returns-in-Some-clause-ok c =
+    top_there c.put_top.result c.self.inside.entries _ c.self.view_is c.args.name.now _ c.place_in-place.ensures
+    c.in-Some.i c.in-Some.is c.index_mut.result.now c.put_top.new.self c.index_mut.ensures.value c.args.def c.put_top.ensures.ok
+
+pub returns-in-Some-clause-err : goal.returns-in-Some-clause-err
+returns-in-Some-clause-err c =
+    same_there c.put_top.result c.self.inside.entries _ c.self.view_is c.args.name.now _ c.place_in-place.ensures
+    c.in-Some.i c.in-Some.is c.index_mut.result.now c.put_top.new.self c.index_mut.ensures.value c.put_top.ensures.err
 
 pub invariant_of-self : goal.invariant_of-self
 invariant_of-self c =
-    let old : Pairs = in_order c.self.inside.entries.entries in
-    let new : Pairs = in_order c.define_in.new.entries.entries in
-    let name : List ℕ = c.args.name.now in
-    let added : is_marked c.add.new.self name ≡ true = c.add.ensures.added in (
-      (
-        kept_either IsTable c.define_in.result old new c.self.invariant.0.0 c.define_in.ensures.table c.define_in.ensures.err,
-        kept_either IsSizedTable c.define_in.result old new c.self.invariant.0.1 c.define_in.ensures.sized c.define_in.ensures.err,
-      ),
-      marked_either c.define_in.result c.self.inside.marks c.add.new.self old new _ c.add.ensures.stay c.self.invariant.1
-          (put_marked c.add.new.self old name (but_last (stack_at old name) ++ c.args.def ∷ []) added) c.define_in.ensures.ok c.define_in.ensures.err,
-    )
+    kept_either c.put_top.result c.self.inside.marks c.add.new.self _ _ _ c.add.ensures.stay c.self.invariant
+    (top_kept c.add.new.self _ c.args.name.now c.args.def c.add.ensures.added (omega arith) c.requires c.len-len.ensures.sized)
+    (top_there c.put_top.result c.self.inside.entries _ refl c.args.name.now _ c.place_in-place.ensures
+    c.in-Some.i c.in-Some.is c.index_mut.result.now c.put_top.new.self c.index_mut.ensures.value c.args.def c.put_top.ensures.ok)
+    (same_there c.put_top.result c.self.inside.entries _ refl c.args.name.now _ c.place_in-place.ensures
+    c.in-Some.i c.in-Some.is c.index_mut.result.now c.put_top.new.self c.index_mut.ensures.value c.put_top.ensures.err)
+
+pub returns-in-Some-clause-table : goal.returns-in-Some-clause-table
+returns-in-Some-clause-table c = (invariant_of-self c).table
+
+pub returns-in-Some-clause-sized : goal.returns-in-Some-clause-sized
+returns-in-Some-clause-sized c = (invariant_of-self c).sized
+
+-- the name is new
+pub returns-in-None-clause-ok : goal.returns-in-None-clause-ok
+returns-in-None-clause-ok c =
+    top_alone c.insert_in.result c.self.inside.entries _ c.self.view_is c.args.name.now _ c.place_in-place.ensures
+    c.in-None.is c.args.def _ c.insert_in.ensures.ok
+
+pub invariant_of-self-in-None : goal.invariant_of-self-in-None
+invariant_of-self-in-None c =
+    kept_either c.insert_in.result c.self.inside.marks c.add.new.self _ _ _ c.add.ensures.stay c.self.invariant
+    (top_kept c.add.new.self _ c.args.name.now c.args.def c.add.ensures.added (omega arith) c.requires c.len-len.ensures.sized)
+    (top_alone c.insert_in.result c.self.inside.entries _ refl c.args.name.now _ c.place_in-place.ensures
+    c.in-None.is c.args.def _ c.insert_in.ensures.ok)
+    (OnErr-map c.insert_in.result _ _ (ap in_order) c.insert_in.ensures.err)
+
+pub returns-in-None-clause-table : goal.returns-in-None-clause-table
+returns-in-None-clause-table c = (invariant_of-self-in-None c).table
+
+pub returns-in-None-clause-sized : goal.returns-in-None-clause-sized
+returns-in-None-clause-sized c = (invariant_of-self-in-None c).sized

@@ -9,5 +9,5 @@ use Rattle.m4_state.proofs.table.Table.hint.Goals as goal
 pub returns : goal.returns
 returns c none =
     ap (λ t. stack_at t c.args.name.now) (sym c.self.view_is)
-    ∙ unmarked_absent c.self.inside.marks (in_order c.self.inside.entries.entries) c.args.name.now c.self.invariant.1
+    ∙ unmarked_absent c.self.inside.marks (in_order c.self.inside.entries.entries) c.args.name.now c.self.invariant.marked
     (sym c.hint.ensures ∙ ap (λ (n : ℕ). nat_lt 0 n) none)

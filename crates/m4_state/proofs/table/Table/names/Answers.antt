@@ -1,7 +1,7 @@
 use Rattle.std.proofs.Common.{◌++◌, map, sym, ap, ◌∙◌, arith}
 use Rattle.std.proofs.lemmas.List.{append-nil, drop_all}
 use Rattle.m4_state.specs.Table.{Pair, Pairs}
-use Rattle.m4_state.proofs.entries.names_in.Goals as goal
+use Rattle.m4_state.proofs.table.Table.names.Goals as goal
 
 -- the names of the pairs were copied
 pub returns : goal.returns

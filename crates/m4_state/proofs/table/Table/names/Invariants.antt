@@ -1,5 +1,5 @@
 use Rattle.std.proofs.Common.{◌≡◌, ◌++◌, map, drop}
-use Rattle.m4_state.proofs.entries.names_in.Given as goal
+use Rattle.m4_state.proofs.table.Table.names.Given as goal
 
 -- the names so far, with those that are left
 abbrev pub invariant-loop-named : goal.invariant-loop-named

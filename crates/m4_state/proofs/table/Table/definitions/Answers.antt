@@ -4,13 +4,13 @@ use Rattle.m4_state.specs.Entries.{Entry}
 use Rattle.m4_state.specs.Table.{Pair}
 use Rattle.m4_state.specs.declared.ranked.Ranked.{Ranked}
 use Rattle.m4_state.proofs.SortedPairs.{pair_more}
-use Rattle.m4_state.proofs.entries.definitions_in.Goals.{in-Some+in_ok-push, in_default}
-use Rattle.m4_state.proofs.entries.definitions_in.Goals as goal
+use Rattle.m4_state.proofs.table.Table.definitions.Goals.{in-Some+in_ok-push, in_default}
+use Rattle.m4_state.proofs.table.Table.definitions.Goals as goal
 
 -- the place is one of an entry, whose pair is next
 pub loop-entry-preserved : goal.loop-entry-preserved
 loop-entry-preserved c =
-    let es = c.args.entries.now.entries in
+    let es = c.self.inside.entries.entries in
     let items = c.deref-entry-items.result.now in
     let i : ℕ = c.loop-entry.entry-index in
     let none : Ranked = record { rank = 0; place = 0 } in
