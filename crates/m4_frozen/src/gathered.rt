@@ -6,7 +6,7 @@ use arrayvec::{ArrayVec, CapacityError};
 use itoa::Buffer;
 
 /// How many bytes are gathered, at most.
-const GATHERED: usize = 256;
+const GATHERED: usize = 1280;
 
 /// The room for one directive or line after another.
 pub(crate) type Gathered = ArrayVec<u8, GATHERED>;

@@ -20,7 +20,7 @@ use std::marker::Model;
 const SOURCE_BLOCK: usize = 4096;
 
 /// The room for pushed texts before the first block, in bytes. Later blocks have bytes before them that were read.
-const ROOM: usize = 1024;
+const PUSHED_ROOM: usize = 1024;
 
 /// Bytes of a file, how many of them were read, and how many newlines of the file were read. The first `pushed` of the
 /// bytes that are left were pushed, over bytes of the file.
@@ -110,9 +110,9 @@ fn make_room(bytes: &mut Vec<u8>, at: usize) -> Result<usize, AllocError>
 {
     let len = bytes.len();
     if len == 0 {
-        bytes.reserve(ROOM + SOURCE_BLOCK)?;
-        append_in_room(bytes, &[0; ROOM]);
-        return Ok(ROOM);
+        bytes.reserve(PUSHED_ROOM + SOURCE_BLOCK)?;
+        append_in_room(bytes, &[0; PUSHED_ROOM]);
+        return Ok(PUSHED_ROOM);
     }
     let is_full = bytes.capacity() < len.saturating_add(SOURCE_BLOCK);
     if is_full && at >= (len - at).saturating_add(SOURCE_BLOCK) {

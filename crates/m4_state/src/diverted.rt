@@ -16,7 +16,7 @@ const PAGE: usize = 4096;
 
 /// How much room a text begins with, at most, unless it is longer itself. A reader gives half as much at a
 /// time, so that a text of two pieces fits.
-const ROOM: usize = 65536;
+const BEGINNING_ROOM: usize = 65536;
 
 /// Adds to the text of a number. Allocations come first, so if one fails nothing changes.
 pub fn append_in(
@@ -49,15 +49,15 @@ pub fn append_in(
 }
 
 /// Copies the first piece of a text. After one of a page or more further pieces may come: three times as many bytes
-/// have room after it, up to `ROOM`, so that they are added without a copy of the first.
+/// have room after it, up to `BEGINNING_ROOM`, so that they are added without a copy of the first.
 fn begun_with(alloc: Global, text: &[u8]) -> Result<Vec<u8>, AllocError>
     ensures items { IfOk result (λ held. held.items ≡ text.now) }
 {
     let len = text.len();
-    let room = if len < PAGE || len > ROOM {
+    let room = if len < PAGE || len > BEGINNING_ROOM {
         len
     } else {
-        (4 * len).min(ROOM)
+        (4 * len).min(BEGINNING_ROOM)
     };
     let mut held = Vec::with_capacity(alloc, room)?;
     held.extend_from_slice(text)?;
