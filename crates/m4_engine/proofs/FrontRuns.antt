@@ -13,11 +13,12 @@ use Rattle.m4_state.specs.declared.definition.Def.TheVariants.{Builtin}
 use Rattle.m4_input.specs.declared.front.Answer.TheVariants.{Unknown}
 use Rattle.m4_input.specs.Token.{scan}
 use Rattle.m4_input.specs.Paren.{paren_in}
-use Rattle.m4_input.specs.Input.{answer_of}
+use Rattle.m4_input.specs.Input.{Held, answer_of}
+use Rattle.m4_input.specs.declared.front.Unended.TheVariants.{InString, InComment}
 use Rattle.m4_input.proofs.OpenEnd.{scan_stays, scan_fits, paren_in_stays}
 use Rattle.m4_engine.specs.Expansion.{Call}
 use Rattle.m4_engine.specs.Plain.{IsPut, IsPlain, ArePlain, IsPlainRun}
-use Rattle.m4_engine.specs.Lookahead.{IsExpansion, IsCalled, IsNamed, IsAhead, IsEndIn, IsNext, IsLookaheadOf}
+use Rattle.m4_engine.specs.Lookahead.{IsExpansion, IsCalled, IsNamed, IsAhead, IsEndIn, IsNext, IsLookaheadOf, IsAfter}
 use Rattle.m4_engine.specs.declared.role.ListEnd.{ListEnd}
 use Rattle.m4_engine.specs.declared.role.ListEnd.TheVariants as ends
 use Rattle.m4_engine.specs.declared.lookahead.Lookahead.{Lookahead}
@@ -121,52 +122,57 @@ named_on s more n listed x z h =
 same_name : (P : List ℕ → Type 0) (n : ℕ) (x z : List ℕ) → n ≤ length x → P (take n x) → P (take n (x ++ z))
 same_name P n x z k h = subst P (sym (take-append-le n x z k)) h
 
-ahead_on : (s : State) (more : Bool) (a : Lookahead) (c : Call) (x z : List ℕ) → (a ≡ aheads.Undecided → ⊥) → IsAhead a c s true x → IsAhead a c s more (x ++ z)
-ahead_on s more aheads.Definition c x z u h = absurd h
-ahead_on s more aheads.EndsArgument c x z u h = absurd h
-ahead_on s more aheads.ClosesList c x z u h = absurd h
-ahead_on s more (aheads.Expansion n) c x z u h =
+ahead_on : (s : State) (more : Bool) (a : Lookahead) (n : ℕ) (c : Call) (x z : List ℕ) → (a ≡ aheads.Undecided → ⊥)
+    → IsAhead a n c s true x → IsAhead a n c s more (x ++ z)
+ahead_on s more aheads.Definition n c x z u h = absurd h
+ahead_on s more aheads.EndsArgument n c x z u h = absurd h
+ahead_on s more aheads.ClosesList n c x z u h = absurd h
+ahead_on s more aheads.Expansion n c x z u h =
     (named_on s more n false x z h.0, same_name (IsExpansion c s) n x z (h.0).within h.1)
-ahead_on s more (aheads.LineSkip n) c x z u h =
+ahead_on s more aheads.LineSkip n c x z u h =
     (named_on s more n false x z h.0, same_name (λ (y : List ℕ). top_of s y ≡ Some (Builtin Dnl)) n x z (h.0).within h.1)
-ahead_on s more (aheads.Call n) c x z u h =
+ahead_on s more aheads.Call n c x z u h =
     (named_on s more n false x z h.0, same_name (IsCalled c s) n x z (h.0).within h.1)
-ahead_on s more (aheads.List n) c x z u h =
-    (named_on s more n true x z h.0, same_name (IsCalled c s) n x z (h.0).within h.1)
-ahead_on s more aheads.End c x z u h = found_on s.quotes s.comments more x z End 0 h
-ahead_on s more (aheads.Unended what) c x z u h = decided_on s.quotes s.comments more x z (Broken what) (λ e. cc) h
-ahead_on s more aheads.Undecided c x z u h = absurd (u refl)
+ahead_on s more aheads.List n c x z u h =
+    (h.0, h.1, named_on s more h.0 true x z h.2, same_name (IsCalled c s) h.0 x z (h.2).within h.3)
+ahead_on s more aheads.End n c x z u h = (h.0, found_on s.quotes s.comments more x z End 0 h.1)
+ahead_on s more aheads.UnendedString n c x z u h = (h.0, decided_on s.quotes s.comments more x z (Broken InString) (λ e. cc) h.1)
+ahead_on s more aheads.UnendedComment n c x z u h = (h.0, decided_on s.quotes s.comments more x z (Broken InComment) (λ e. cc) h.1)
+ahead_on s more aheads.Undecided n c x z u h = absurd (u refl)
 
 end_on : (s : State) (more : Bool) (end : ListEnd) (cs : List Call) (x z : List ℕ) → IsEndIn end cs s true x → IsEndIn end cs s more (x ++ z)
 end_on s more end [] x z h = absurd h
 end_on s more end (d ∷ ds) x z h =
     record { byte = h.byte; scanned = found_on s.quotes s.comments more x z (Byte h.byte) 1 h.scanned; ends = h.ends }
 
-next_on : (s : State) (more : Bool) (a : Lookahead) (cs : List Call) (c : Call) (x z : List ℕ) → (a ≡ aheads.Undecided → ⊥)
-    → IsNext a cs c s true x → IsNext a cs c s more (x ++ z)
-next_on s more aheads.Definition cs c x z u h = absurd h
-next_on s more aheads.EndsArgument cs c x z u h = end_on s more ends.Argument cs x z h
-next_on s more aheads.ClosesList cs c x z u h = end_on s more ends.List cs x z h
-next_on s more (aheads.Expansion n) cs c x z u h = ahead_on s more (aheads.Expansion n) c x z u h
-next_on s more (aheads.LineSkip n) cs c x z u h = ahead_on s more (aheads.LineSkip n) c x z u h
-next_on s more (aheads.Call n) cs c x z u h = ahead_on s more (aheads.Call n) c x z u h
-next_on s more (aheads.List n) cs c x z u h = ahead_on s more (aheads.List n) c x z u h
-next_on s more aheads.End cs c x z u h = ahead_on s more aheads.End c x z u h
-next_on s more (aheads.Unended what) cs c x z u h = ahead_on s more (aheads.Unended what) c x z u h
-next_on s more aheads.Undecided cs c x z u h = absurd (u refl)
+next_on : (s : State) (more : Bool) (a : Lookahead) (n : ℕ) (cs : List Call) (c : Call) (x z : List ℕ)
+    → (a ≡ aheads.Undecided → ⊥) → IsNext a n cs c s true x → IsNext a n cs c s more (x ++ z)
+next_on s more aheads.Definition n cs c x z u h = absurd h
+next_on s more aheads.EndsArgument n cs c x z u h = (h.0, end_on s more ends.Argument cs x z h.1)
+next_on s more aheads.ClosesList n cs c x z u h = (h.0, end_on s more ends.List cs x z h.1)
+next_on s more aheads.Expansion n cs c x z u h = ahead_on s more aheads.Expansion n c x z u h
+next_on s more aheads.LineSkip n cs c x z u h = ahead_on s more aheads.LineSkip n c x z u h
+next_on s more aheads.Call n cs c x z u h = ahead_on s more aheads.Call n c x z u h
+next_on s more aheads.List n cs c x z u h = ahead_on s more aheads.List n c x z u h
+next_on s more aheads.End n cs c x z u h = ahead_on s more aheads.End n c x z u h
+next_on s more aheads.UnendedString n cs c x z u h = ahead_on s more aheads.UnendedString n c x z u h
+next_on s more aheads.UnendedComment n cs c x z u h = ahead_on s more aheads.UnendedComment n c x z u h
+next_on s more aheads.Undecided n cs c x z u h = absurd (u refl)
 
 -- what is right in any list is so in these
-pub ahead_next : (a : Lookahead) (cs : List Call) (c : Call) (s : State) (m : Bool) (x : List ℕ) → IsAhead a c s m x → IsNext a cs c s m x
-ahead_next aheads.Definition cs c s m x h = absurd h
-ahead_next aheads.EndsArgument cs c s m x h = absurd h
-ahead_next aheads.ClosesList cs c s m x h = absurd h
-ahead_next (aheads.Expansion n) cs c s m x h = h
-ahead_next (aheads.LineSkip n) cs c s m x h = h
-ahead_next (aheads.Call n) cs c s m x h = h
-ahead_next (aheads.List n) cs c s m x h = h
-ahead_next aheads.End cs c s m x h = h
-ahead_next (aheads.Unended what) cs c s m x h = h
-ahead_next aheads.Undecided cs c s m x h = h
+pub ahead_next : (a : Lookahead) (n : ℕ) (cs : List Call) (c : Call) (s : State) (m : Bool) (x : List ℕ)
+    → IsAhead a n c s m x → IsNext a n cs c s m x
+ahead_next aheads.Definition n cs c s m x h = absurd h
+ahead_next aheads.EndsArgument n cs c s m x h = absurd h
+ahead_next aheads.ClosesList n cs c s m x h = absurd h
+ahead_next aheads.Expansion n cs c s m x h = h
+ahead_next aheads.LineSkip n cs c s m x h = h
+ahead_next aheads.Call n cs c s m x h = h
+ahead_next aheads.List n cs c s m x h = h
+ahead_next aheads.End n cs c s m x h = h
+ahead_next aheads.UnendedString n cs c s m x h = h
+ahead_next aheads.UnendedComment n cs c s m x h = h
+ahead_next aheads.Undecided n cs c s m x h = h
 
 -- the bytes after those at the front
 pub record After (p : Pending) (x : List ℕ) (m : Bool) : Type 0 where
@@ -206,18 +212,34 @@ put_after s p m n x t l h k g =
     by false z f g = closed_on (λ b (y : List ℕ). IsPut s b l t y) (drop n x) z p.may_follow f g
 
 -- what was seen after n bytes is seen at the front once these were consumed
-next_there : (a : Lookahead) (cs : List Call) (c : Call) (s : State) (p : Pending) → p.definition ≡ None
-    → IsNext a cs c s p.may_follow (text_of p) → IsLookaheadOf a cs c s p
-next_there aheads.Definition cs c s p f h = absurd h
-next_there aheads.EndsArgument cs c s p f h = (f, h)
-next_there aheads.ClosesList cs c s p f h = (f, h)
-next_there (aheads.Expansion n) cs c s p f h = (f, h)
-next_there (aheads.LineSkip n) cs c s p f h = (f, h)
-next_there (aheads.Call n) cs c s p f h = (f, h)
-next_there (aheads.List n) cs c s p f h = (f, h)
-next_there aheads.End cs c s p f h = (f, h)
-next_there (aheads.Unended what) cs c s p f h = (f, h)
-next_there aheads.Undecided cs c s p f h = (f, h)
+next_there : (a : Lookahead) (n : ℕ) (cs : List Call) (c : Call) (s : State) (p : Pending) → p.definition ≡ None
+    → IsNext a n cs c s p.may_follow (text_of p) → IsLookaheadOf a n cs c s p
+next_there aheads.Definition n cs c s p f h = absurd h
+next_there aheads.EndsArgument n cs c s p f h = (f, h)
+next_there aheads.ClosesList n cs c s p f h = (f, h)
+next_there aheads.Expansion n cs c s p f h = (f, h)
+next_there aheads.LineSkip n cs c s p f h = (f, h)
+next_there aheads.Call n cs c s p f h = (f, h)
+next_there aheads.List n cs c s p f h = (f, h)
+next_there aheads.End n cs c s p f h = (f, h)
+next_there aheads.UnendedString n cs c s p f h = (f, h)
+next_there aheads.UnendedComment n cs c s p f h = (f, h)
+next_there aheads.Undecided n cs c s p f h = (f, h)
+
+-- and so are its bytes after it
+pub after_next : (a : Lookahead) (n : ℕ) (cs : List Call) (c : Call) (s : State) (m : Bool) (x : List ℕ) (i j : Held)
+    → IsNext a n cs c s m x → j ≡ record i { pending = consumed n i.pending } → IsAfter a n i j
+after_next aheads.Definition n cs c s m x i j h g = absurd h
+after_next aheads.EndsArgument n cs c s m x i j h g = g
+after_next aheads.ClosesList n cs c s m x i j h g = g
+after_next aheads.Expansion n cs c s m x i j h g = g
+after_next aheads.LineSkip n cs c s m x i j h g = g
+after_next aheads.Call n cs c s m x i j h g = g
+after_next aheads.List n cs c s m x i j h g = g
+after_next aheads.End n cs c s m x i j h g = g
+after_next aheads.UnendedString n cs c s m x i j h g = g
+after_next aheads.UnendedComment n cs c s m x i j h g = g
+after_next aheads.Undecided n cs c s m x i j h g = g
 
 -- the bytes that are left of those at the front come first once the others were consumed
 pub front_left : (p : Pending) (m : Bool) (n : ℕ) (x : List ℕ) → IsInFront p x m → n ≤ length x → (rest : List ℕ) × (text_of (consumed n p) ≡ drop n x ++ rest)
@@ -225,19 +247,19 @@ front_left p m n x h k =
     let r = after p x m h in
     (r.rest, sym (drop_parts n p.pushed p.unread) ∙ ap (drop n) r.all ∙ drop-append-le n x r.rest k)
 
-pub next_front : (a : Lookahead) (cs : List Call) (c : Call) (s : State) (p : Pending) (others : Bool) (n : ℕ) (x : List ℕ)
-    → IsInFront p x (others || p.may_follow) → (others ≡ false → x ≡ text_of p) → n ≤ length x
+pub next_front : (a : Lookahead) (t : ℕ) (cs : List Call) (c : Call) (s : State) (p : Pending) (others : Bool) (n : ℕ)
+    (x : List ℕ) → IsInFront p x (others || p.may_follow) → (others ≡ false → x ≡ text_of p) → n ≤ length x
     → (a ≡ aheads.Undecided → others ≡ false)
-    → IsNext a cs c s (others || p.may_follow) (drop n x)
-    → IsLookaheadOf a cs c s (consumed n p)
-next_front a cs c s p false n x h all k u g =
-    next_there a cs c s (consumed n p) refl
-    (subst (λ (y : List ℕ). IsNext a cs c s p.may_follow y) (ap (drop n) (all refl) ∙ drop_parts n p.pushed p.unread) g)
-next_front a cs c s p true n x h all k u g =
+    → IsNext a t cs c s (others || p.may_follow) (drop n x)
+    → IsLookaheadOf a t cs c s (consumed n p)
+next_front a t cs c s p false n x h all k u g =
+    next_there a t cs c s (consumed n p) refl
+    (subst (λ (y : List ℕ). IsNext a t cs c s p.may_follow y) (ap (drop n) (all refl) ∙ drop_parts n p.pushed p.unread) g)
+next_front a t cs c s p true n x h all k u g =
     let l = front_left p true n x h k in
-    next_there a cs c s (consumed n p) refl
-    (subst (λ (y : List ℕ). IsNext a cs c s p.may_follow y) (sym l.1)
-    (next_on s p.may_follow a cs c (drop n x) l.0 (λ e. absurd (no (u e))) g))
+    next_there a t cs c s (consumed n p) refl
+    (subst (λ (y : List ℕ). IsNext a t cs c s p.may_follow y) (sym l.1)
+    (next_on s p.may_follow a t cs c (drop n x) l.0 (λ e. absurd (no (u e))) g))
   where
     no : true ≡ false → ⊥
     no e = cc
@@ -249,6 +271,12 @@ front_less p m n x h some k =
     let rest : length (text_of (consumed n p)) ≡ length (text_of p) - n = ap length (sym (drop_parts n p.pushed p.unread)) ∙ length-drop n (text_of p) in
     let all : length (text_of p) ≡ length x + length r.rest = ap length r.all ∙ length-append x r.rest in
     omega (arith, rest, all)
+
+pub front_fits : (p : Pending) (m : Bool) (x : List ℕ) → IsInFront p x m → length x ≤ length (text_of p)
+front_fits p m x h =
+    let r = after p x m h in
+    let all : length (text_of p) ≡ length x + length r.rest = ap length r.all ∙ length-append x r.rest in
+    omega (arith, all)
 
 pub take_in_front : (p : Pending) (m : Bool) (n : ℕ) (x : List ℕ) → IsInFront p x m → n ≤ length x → take n (text_of p) ≡ take n x
 take_in_front p m n x h k =

@@ -50,6 +50,7 @@ pub mod Passing
 pub mod SkippedLines
 pub mod Leading
 mod ListEnds
+pub mod Taken
 pub mod Marks
 pub mod Running
 pub mod Seen

@@ -5,14 +5,14 @@ use Rattle.std.proofs.Common.{◌≡◌, ◌⊎◌, inl, inr, Bool, true, false,
 use Rattle.std.proofs.Common.{◌+◌, ◌-◌, ◌<◌, ◌≤◌, List, [], ◌∷◌, ◌++◌, Option, None, take}
 use Rattle.std.proofs.Common.{drop, length, refl, sym, ap, ◌∙◌, subst, arith, append-nil, append_assoc, length-append}
 use Rattle.std.proofs.Math.Seq.{take-add}
-use Rattle.std.proofs.lemmas.List.{length-drop}
+use Rattle.std.proofs.lemmas.List.{length-drop, take-append-le}
 use Rattle.m4_state.specs.declared.definition.Def.{Def}
 use Rattle.m4_input.specs.declared.token.Token.TheVariants.{Name, Str, Comment, Byte}
 use Rattle.m4_input.specs.Pending.{Pending, text_of, counted, consumed, newlines_in}
 use Rattle.m4_engine.specs.Plain.{IsPut, total, ArePlain}
 use Rattle.m4_engine.specs.Collected.{IsText, IsListToken, AreListTokens, bytes_in}
 use Rattle.m4_input.specs.Input.{Held, longer}
-use Rattle.m4_input.proofs.Consumed.{consumed_twice}
+use Rattle.m4_input.proofs.Consumed.{consumed_twice, text-consumed}
 use Rattle.m4_input.proofs.Parts.{drop_parts, counted_none}
 use Rattle.m4_engine.specs.declared.turned.Turned.TheVariants as turns
 use Rattle.m4_engine.specs.Nesting.{GoOn}
@@ -21,17 +21,18 @@ use Rattle.m4_engine.specs.Expansion.{Call, Expansion, Kept, Ended, reading, put
 use Rattle.m4_engine.specs.Expand.{turn, join, take_front, take_name}
 use Rattle.m4_engine.specs.Engine.{Engine, put_in, here_of, outer_of, configuration, IsReady}
 use Rattle.m4_engine.specs.Moments.{Moment, Next, moved, Comes}
-use Rattle.m4_engine.specs.Turns.{MayFollow, Moves}
+use Rattle.m4_engine.specs.Turns.{IsTaken, MayFollow, Moves}
 use Rattle.m4_engine.specs.Passes.{PassesPlain, PassesInner, PassesToken, PassesOnce, ArePasses, Passes, PassesText}
-use Rattle.m4_engine.specs.Passes.{PassesBy, IsFull, IsLookahead}
+use Rattle.m4_engine.specs.Passes.{PassesBy, PassesTo, IsFull, IsSeen}
 use Rattle.std.specs.Prelude.{Some, IfSome}
 use Rattle.std.specs.Borrow.{Bor}
 use Rattle.m4_input.specs.Blocks.{IsInFront}
 use Rattle.m4_engine.specs.declared.lookahead.Lookahead.{Lookahead}
 use Rattle.m4_engine.specs.declared.lookahead.Lookahead.TheVariants as aheads
 use Rattle.m4_engine.specs.Lookahead.{IsNext}
-use Rattle.m4_engine.proofs.FrontRuns.{plain_front, list_front, put_after, take_in_front, next_front, front_left}
-use Rattle.m4_engine.proofs.FrontRuns.{front_less}
+use Rattle.m4_engine.proofs.FrontRuns.{plain_front, list_front, put_after, take_in_front, next_front, after_next, front_left}
+use Rattle.m4_engine.proofs.FrontRuns.{front_less, front_fits}
+use Rattle.m4_engine.proofs.Taken.{IsInline, none_inline, next_inline}
 use Rattle.m4_engine.proofs.Longer.{found_longer}
 use Rattle.m4_engine.proofs.LoopKeeps.{turns_of, turn_falls}
 use Rattle.m4_engine.proofs.Measures.{measure, measure_falls}
@@ -424,21 +425,45 @@ filled_fall e e1 i i1 h few full = by (passes_reaches e e1 i i1 h).fewer
     by (inl g) = let same : length e1.output ≡ length e.output = ap length g in omega (arith, few, full, same)
     by (inr k) = k
 
+-- an input after so many bytes
+abbrev pub past : ℕ → Held → Held
+past n i = record i { pending = consumed n i.pending }
+
+-- and after none
+pub past_none : (n t : ℕ) (i j : Held) → t ≡ 0 → j ≡ past (n + t) i → j ≡ past n i
+past_none n t i j e g = let same : n + t ≡ n = omega (arith, e) in g ∙ ap (λ k. past k i) same
+
+pub past_nothing : (n : ℕ) (i j : Held) → n ≡ 0 → (i.pending).definition ≡ None → j ≡ past n i → j ≡ i
+past_nothing n i j e d g =
+    g ∙ ap (λ k. past k i) e ∙ ap (λ (p : Pending). let k : Held = record i { pending = p } in k) (consumed_none i.pending d)
+
+-- a token was consumed
+pub past_taken : (n : ℕ) (i j : Held) → IsReady i → j ≡ past n i → IsTaken j
+past_taken n i j r g = record {
+  ready = subst IsReady (sym g) (record { sound = r.sound; front = tt });
+  taken = ap (λ (k : Held). (k.pending).definition) g;
+}
+
+-- the lookahead is this one
+pub seen_as : (a b : Lookahead) (c : Call) (e : Engine) (i j : Held) → a ≡ b → IsSeen a c e i j → IsSeen b c e i j
+seen_as a b c e i j h w = subst (λ (v : Lookahead). IsSeen v c e i j) h w
+
 -- a pass over a text in front of an input
-module _ (a : Option Lookahead) (c : Call) (old new : Engine) (i j : Held) (looked n : ℕ) (x : List ℕ) (others more : Bool)
+module _ (a : Option Lookahead) (t : ℕ) (c : Call) (old new : Engine) (i : Held) (looked n : ℕ) (x : List ℕ) (others more : Bool)
     (m : more ≡ (others || (i.pending).may_follow)) (h : IsInFront i.pending x (others || (i.pending).may_follow))
     (longer : others ≡ true → looked < length x) (d : (i.pending).definition ≡ None)
-    (r : PassesBy n a c x more old new) (g : j ≡ record i { pending = consumed n i.pending }) where
-  front_once : PassesOnce old new i j
-  front_once = passes_text old new i j (others || (i.pending).may_follow) n x h d r.within (subst (λ (v : Bool). PassesText v n x old new) m r.passes) g
+    (r : PassesBy n t a c x more old new) where
+  front_once : PassesOnce old new i (past n i)
+  front_once = passes_text old new i (past n i) (others || (i.pending).may_follow) n x h d r.within
+      (subst (λ (v : Bool). PassesText v n x old new) m r.passes) refl
 
   -- others come after the bytes that were looked at
-  front_open : others ≡ true → IsFurther (length x - n) looked i.pending j.pending
+  front_open : others ≡ true → IsFurther (length x - n) looked i.pending (consumed n i.pending)
   front_open o =
       let l = front_left i.pending (others || (i.pending).may_follow) n x h r.within in
       let left : length (text_of (consumed n i.pending)) ≡ length (drop n x) + length l.0 = ap length l.1 ∙ length-append (drop n x) l.0 in
       let rest : length (drop n x) ≡ length x - n = length-drop n x in
-      subst (λ (v : Held). IsFurther (length x - n) looked i.pending v.pending) (sym g) (omega (arith, left, rest), by n h r.within)
+      (omega (arith, left, rest), by n h r.within)
     where
       by : (n : ℕ) → IsInFront i.pending x (others || (i.pending).may_follow) → n ≤ length x
           → (length (text_of (consumed n i.pending)) < length (text_of i.pending))
@@ -449,51 +474,107 @@ module _ (a : Option Lookahead) (c : Call) (old new : Engine) (i j : Held) (look
       by (suc n) h k = inl (front_less i.pending (others || (i.pending).may_follow) (suc n) x h (omega arith) k)
 
   -- some bytes were passed
-  front_further : a ≡ None → length new.output < 65536 → IsFurther 0 looked i.pending j.pending
-  front_further f few = subst (λ (v : Held). IsFurther 0 looked i.pending v.pending) (sym g) (omega arith, by (r.none f))
+  front_further : a ≡ None → length new.output < 65536 → IsFurther 0 looked i.pending (consumed n i.pending)
+  front_further f few = (omega arith, by (r.none f).1)
     where
       by : (0 < n) ⊎ IsFull new → (length (text_of (consumed n i.pending)) < length (text_of i.pending))
           ⊎ ((length (text_of (consumed n i.pending)) ≡ length (text_of i.pending)) × (looked < 0))
       by (inl e) = inl (front_less i.pending (others || (i.pending).may_follow) n x h e r.within)
       by (inr e) = absurd (let no : 65536 ≤ length new.output = e in omega (arith, few, no))
 
+  -- the bytes of the token have no newlines
+  front_inline : IsInline t (drop n x)
+  front_inline = by a refl
+    where
+      by : (o : Option Lookahead) → a ≡ o → IsInline t (drop n x)
+      by None e = none_inline t (drop n x) (r.none e).0
+      by (Some v) e = next_inline v t new.open_calls c new.state more (drop n x)
+          (subst (λ (o : Option Lookahead). IfSome o (λ w. IsNext w t new.open_calls c new.state more (drop n x))) e r.end)
+
+  front_within : (t ≤ n + t) × (n + t ≤ length (text_of i.pending))
+  front_within =
+      let l = front_left i.pending (others || (i.pending).may_follow) n x h r.within in
+      let left : length (text_of (consumed n i.pending)) ≡ length (drop n x) + length l.0 = ap length l.1 ∙ length-append (drop n x) l.0 in
+      let rest : length (drop n x) ≡ length x - n = length-drop n x in
+      let all : length (text_of (consumed n i.pending)) ≡ length (text_of i.pending) - n = text-consumed n i.pending in
+      let fits : n ≤ length x = r.within in
+      let token : t ≤ length (drop n x) = front_inline.0 in
+      let some : length x ≤ length (text_of i.pending) = front_fits i.pending (others || (i.pending).may_follow) x h in
+      (omega arith, omega (arith, left, rest, all, fits, token, some))
+
+  front_none : newlines_in (take t (drop ((n + t) - t) (text_of i.pending))) ≡ 0
+  front_none =
+      let l = front_left i.pending (others || (i.pending).may_follow) n x h r.within in
+      let same : (n + t) - t ≡ n = omega arith in
+      ap (λ k. newlines_in (take t (drop k (text_of i.pending)))) same
+      ∙ ap (λ (y : List ℕ). newlines_in (take t y)) (drop_parts n (i.pending).pushed (i.pending).unread ∙ l.1)
+      ∙ ap newlines_in (take-append-le t (drop n x) l.0 front_inline.0) ∙ front_inline.1
+
   -- a token was found
   front_found : (others ≡ false → x ≡ text_of i.pending) → (v : Lookahead) → a ≡ Some v → (v ≡ aheads.Undecided → others ≡ false)
-      → IsLookahead v c new j.pending
-  front_found all v f u =
-      subst (λ (w : Held). IsLookahead v c new w.pending) (sym g)
-      (next_front v new.open_calls c new.state i.pending others n x h all r.within u
-      (subst (λ (b : Bool). IsNext v new.open_calls c new.state b (drop n x)) m
-      (subst (λ (o : Option Lookahead). IfSome o (λ w. IsNext w new.open_calls c new.state more (drop n x))) f r.end)))
+      → IsReady i → (j : Held) → j ≡ past (n + t) i → IsSeen v c new (past n i) j
+  front_found all v f u q j g =
+      let next : IsNext v t new.open_calls c new.state more (drop n x) =
+      subst (λ (o : Option Lookahead). IfSome o (λ w. IsNext w t new.open_calls c new.state more (drop n x))) f r.end in
+      record {
+        len = t;
+        ready = once_ready old new i (past n i) q front_once;
+        token = next_front v t new.open_calls c new.state i.pending others n x h all r.within u
+            (subst (λ (b : Bool). IsNext v t new.open_calls c new.state b (drop n x)) m next);
+        after = after_next v t new.open_calls c new.state more (drop n x) (past n i) j next
+            (g ∙ ap (λ (p : Pending). let k : Held = record i { pending = p } in k) (sym (consumed_twice n t i.pending)));
+      }
+
+  -- a token that is left open is not consumed
+  front_undecided : a ≡ Some aheads.Undecided → t ≡ 0
+  front_undecided f = (subst (λ (o : Option Lookahead). IfSome o (λ w. IsNext w t new.open_calls c new.state more (drop n x))) f r.end).0
 
 -- what a pass over the front of an input did: `others` come after the bytes that it looked at, of which `left` are left
-pub record PassesFront (a : Option Lookahead) (c : Call) (looked left : ℕ) (others : Bool) (old new : Engine) (i j : Held) : Type 0 where
-  pub once : PassesOnce old new i j
-  pub undecided : others ≡ true → IsFurther left looked i.pending j.pending
-  pub further : a ≡ None → length new.output < 65536 → IsFurther 0 looked i.pending j.pending
-  pub found : (v : Lookahead) → a ≡ Some v → (v ≡ aheads.Undecided → others ≡ false) → IsLookahead v c new j.pending
+pub record PassesFront (a : Option Lookahead) (n t : ℕ) (c : Call) (looked left : ℕ) (others : Bool) (old new : Engine) (i : Held) : Type 0 where
+  pub once : PassesOnce old new i (past n i)
+  pub undecided : others ≡ true → IsFurther left looked i.pending (consumed n i.pending)
+  pub further : a ≡ None → length new.output < 65536 → IsFurther 0 looked i.pending (consumed n i.pending)
+  pub within : (t ≤ n + t) × (n + t ≤ length (text_of i.pending))
+  pub inline : newlines_in (take t (drop ((n + t) - t) (text_of i.pending))) ≡ 0
+  pub none : a ≡ None → t ≡ 0
+  pub still_open : a ≡ Some aheads.Undecided → t ≡ 0
+  pub found : (v : Lookahead) → a ≡ Some v → (v ≡ aheads.Undecided → others ≡ false) → IsReady i → (j : Held)
+      → j ≡ past (n + t) i → IsSeen v c new (past n i) j
 
-pub passes_front : (a : Option Lookahead) (c : Call) (old new : Engine) (i j : Held) (looked n : ℕ) (text : Bor (List ℕ)) (others more : Bool)
-    (o : Option (Bor (List ℕ) × Bool)) → o ≡ Some (text, others) → more ≡ (others || (i.pending).may_follow)
+pub passes_front : (a : Option Lookahead) (t : ℕ) (c : Call) (old new : Engine) (i : Held) (looked n : ℕ) (text : Bor (List ℕ))
+    (others more : Bool) (o : Option (Bor (List ℕ) × Bool)) → o ≡ Some (text, others)
+    → more ≡ (others || (i.pending).may_follow)
     → IfSome o (λ r. IsInFront i.pending r.0.now (r.1 || (i.pending).may_follow))
     → IfSome o (λ r. r.1 ≡ false → r.0.now ≡ text_of i.pending)
     → IfSome o (λ r. r.1 ≡ true → looked < length r.0.now)
     → IfSome o (λ r. (i.pending).definition ≡ None)
-    → PassesBy n a c text.now more old new → j ≡ record i { pending = consumed n i.pending }
-    → PassesFront a c looked (length text.now - n) others old new i j
-passes_front a c old new i j looked n text others more o is m h all longer d r g =
+    → PassesBy n t a c text.now more old new
+    → PassesFront a n t c looked (length text.now - n) others old new i
+passes_front a t c old new i looked n text others more o is m h all longer d r =
     let h = subst (λ (o : Option (Bor (List ℕ) × Bool)). IfSome o (λ r. IsInFront i.pending r.0.now (r.1 || (i.pending).may_follow))) is h in
     let all = subst (λ (o : Option (Bor (List ℕ) × Bool)). IfSome o (λ r. r.1 ≡ false → r.0.now ≡ text_of i.pending)) is all in
     let longer = subst (λ (o : Option (Bor (List ℕ) × Bool)). IfSome o (λ r. r.1 ≡ true → looked < length r.0.now)) is longer in
     let d = subst (λ (o : Option (Bor (List ℕ) × Bool)). IfSome o (λ r. (i.pending).definition ≡ None)) is d in
     record {
-      once = front_once a c old new i j looked n text.now others more m h longer d r g;
-      undecided = front_open a c old new i j looked n text.now others more m h longer d r g;
-      further = front_further a c old new i j looked n text.now others more m h longer d r g;
-      found = front_found a c old new i j looked n text.now others more m h longer d r g all;
+      once = front_once a t c old new i looked n text.now others more m h longer d r;
+      undecided = front_open a t c old new i looked n text.now others more m h longer d r;
+      further = front_further a t c old new i looked n text.now others more m h longer d r;
+      within = front_within a t c old new i looked n text.now others more m h longer d r;
+      inline = front_none a t c old new i looked n text.now others more m h longer d r;
+      none = λ e. (r.none e).0;
+      still_open = front_undecided a t c old new i looked n text.now others more m h longer d r;
+      found = front_found a t c old new i looked n text.now others more m h longer d r all;
     }
 
 -- a further pass over a front
 pub passed_front : (e e1 e2 : Engine) (i i1 i2 t : Held) → Passes e e1 i i1 → IsReady i1 → PassesOnce e1 e2 i1 i2 → t ≡ i2 → Passes e e2 i t × IsReady t
 passed_front e e1 e2 i i1 i2 t h r k g =
     (subst (λ (j : Held). Passes e e2 i j) (sym g) (passes_on e e1 e2 i i1 i2 h k), subst IsReady (sym g) (once_ready e1 e2 i1 i2 r k))
+
+-- what passes did, by what they found
+pub to_none : (o : Option Lookahead) (c : Call) (old new : Engine) (i j : Held) → o ≡ None → PassesTo o c old new i j → PassesTo None c old new i j
+to_none o c old new i j e h = subst (λ (v : Option Lookahead). PassesTo v c old new i j) e h
+
+pub to_some : (o : Option Lookahead) (a : Lookahead) (c : Call) (old new : Engine) (i j : Held) → o ≡ Some a → PassesTo o c old new i j
+    → PassesTo (Some a) c old new i j
+to_some o a c old new i j e h = subst (λ (v : Option Lookahead). PassesTo v c old new i j) e h

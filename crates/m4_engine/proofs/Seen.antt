@@ -20,7 +20,7 @@ use Rattle.m4_engine.specs.declared.turned.Turned.{Turned}
 use Rattle.m4_builtins.specs.declared.fault.BuiltinFault.{BuiltinFault as TurnFault}
 use Rattle.m4_engine.specs.Expansion.{Call, place_at, issued, reading, put_text}
 use Rattle.m4_engine.specs.Expand.{call, call_of, take_call, take_name}
-use Rattle.m4_engine.specs.Lookahead.{Recognises, IsExpansion, IsCalled}
+use Rattle.m4_engine.specs.Lookahead.{Recognises, IsExpansion, IsCalled, IsNamed}
 use Rattle.m4_engine.specs.Engine.{Engine, outer_of, here_of, allows_call, configuration, put_in, with_text}
 use Rattle.m4_engine.specs.Engine.{with_one_call, with_made, is_deep_in}
 use Rattle.m4_engine.specs.Turns.{step, Extended, Moves}
@@ -70,6 +70,11 @@ list_there q c p r n v g k =
     ap (paren_at q c) g
     ∙ ap (paren_in q c p.may_follow) (sym (drop_parts n p.pushed p.unread))
     ∙ k
+
+-- whether one follows a name, once that was consumed
+pub name_there : (n : ℕ) (listed : Bool) (s : State) (p : Pending) → IsNamed n listed s p.may_follow (text_of p)
+    → paren_at s.quotes s.comments (consumed n p) ≡ answer_of listed
+name_there n listed s p h = list_there s.quotes s.comments p (consumed n p) n (answer_of listed) refl h.list
 
 -- a list follows, so a byte does
 pub list_text : (q c : Delimiters) (p : Pending) → paren_at q c p ≡ answer_of true → 0 < length (text_of p)

@@ -1,16 +1,17 @@
 -- Passes: tokens that call nothing, taken many at once, as the turns that they stand for.
 -- Not believed: it connects the engine's passes with its turns.
-use Rattle.std.specs.Prelude.{◌≡◌, Option, None, IfSome, ℕ, ◌+◌, Bool, List, [], ◌∷◌, length, take, drop, ◌<◌, ◌≤◌, ◌⊎◌}
-use Rattle.m4_input.specs.Pending.{Pending, text_of, consumed}
+use Rattle.std.specs.Prelude.{◌≡◌, Option, None, Some, IfSome, ℕ, ◌+◌, Bool, List, [], ◌∷◌, length, take, drop}
+use Rattle.std.specs.Prelude.{◌<◌, ◌≤◌, ◌⊎◌}
+use Rattle.m4_input.specs.Pending.{text_of, consumed}
 use Rattle.m4_engine.specs.Plain.{IsPut, total, ArePlain, IsPlainRun}
 use Rattle.m4_engine.specs.Collected.{IsListRun}
 use Rattle.m4_engine.specs.Expansion.{Call}
 use Rattle.m4_input.specs.Input.{Held}
 use Rattle.m4_engine.specs.declared.lookahead.Lookahead.{Lookahead}
-use Rattle.m4_engine.specs.Lookahead.{IsNext, IsLookaheadOf}
+use Rattle.m4_engine.specs.Lookahead.{IsNext, IsLookaheadOf, IsAfter}
 use Rattle.m4_engine.specs.declared.token_sink.Taken.{Taken}
 use Rattle.m4_engine.specs.declared.token_sink.Taken.TheVariants as takens
-use Rattle.m4_engine.specs.Engine.{Engine, put_in}
+use Rattle.m4_engine.specs.Engine.{Engine, put_in, IsReady}
 
 -- P is so of the end, if a sink took a token
 abbrev pub IfUpTo : {L : Type 0} → Taken L → (ℕ → Type 0) → Type 0
@@ -70,9 +71,12 @@ ArePasses (s ∷ ss) old new i j = PassesOnce old s.0 i s.1 × ArePasses ss s.0 
 abbrev pub Passes : Engine → Engine → Held → Held → Type 0
 Passes old new i j = (ss : List (Engine × Held)) × ArePasses ss old new i j
 
--- the lookahead, with the next call, is right for the next token
-abbrev pub IsLookahead : Lookahead → Call → Engine → Pending → Type 0
-IsLookahead a c e p = IsLookaheadOf a e.open_calls c e.state p
+-- j is the input i after its next token, for which the lookahead is right, with the next call
+pub record IsSeen (a : Lookahead) (c : Call) (e : Engine) (i j : Held) : Type 0 where
+  pub len : ℕ
+  pub ready : IsReady i
+  pub token : IsLookaheadOf a len e.open_calls c e.state i.pending
+  pub after : IsAfter a len i j
 
 -- the first n bytes of a text are such tokens, and were added where they go
 abbrev pub PassesText : Bool → ℕ → List ℕ → Engine → Engine → Type 0
@@ -87,11 +91,16 @@ PassesText m n x old new =
 abbrev pub IsFull : Engine → Type 0
 IsFull e = 65536 ≤ length e.output
 
--- a pass over a text, after which more bytes may come, ends at the next token; or it found none, since a block of
--- output is full, or some bytes were passed
-pub record PassesBy (n : ℕ) (a : Option Lookahead) (c : Call) (x : List ℕ) (more : Bool) (old new : Engine)
+-- a pass over a text, after which more bytes may come, ends at the next token, of which t bytes are consumed; or it
+-- found none, since a block of output is full, or some bytes were passed
+pub record PassesBy (n t : ℕ) (a : Option Lookahead) (c : Call) (x : List ℕ) (more : Bool) (old new : Engine)
     : Type 0 where
   pub passes : PassesText more n x old new
   pub within : n ≤ length x
-  pub end : IfSome a (λ v. IsNext v new.open_calls c new.state more (drop n x))
-  pub none : a ≡ None → (0 < n) ⊎ IsFull new
+  pub end : IfSome a (λ v. IsNext v t new.open_calls c new.state more (drop n x))
+  pub none : a ≡ None → (t ≡ 0) × ((0 < n) ⊎ IsFull new)
+
+-- passes end at a full block of output, or after the next token
+abbrev pub PassesTo : Option Lookahead → Call → Engine → Engine → Held → Held → Type 0
+PassesTo None c old new i j = Passes old new i j × IsFull new
+PassesTo (Some a) c old new i j = (k : Held) × Passes old new i k × IsSeen a c new k j

@@ -16,11 +16,11 @@ use m4_input::delims::Delims;
 use std::alloc::AllocError;
 
 impl TokenSink for OpenCall {
-    type Left = Lookahead;
+    type Left = (Lookahead, usize);
 
     ghost takes = { IsListRun };
 
-    ghost leaves = { λ left c next s m x. (cs : List Call) → IsNext left (c ∷ cs) next s m x };
+    ghost leaves = { λ left c next s m x. (cs : List Call) → IsNext left.0 left.1 (c ∷ cs) next s m x };
 
     #[inline(always)]
     fn take(
@@ -29,7 +29,7 @@ impl TokenSink for OpenCall {
         text: &[u8],
         at: usize,
         delims: &Delims<'_>,
-    ) -> Result<Taken<Lookahead>, AllocError> {
+    ) -> Result<Taken<(Lookahead, usize)>, AllocError> {
         let (_, text) = text.split_at(at);
         let byte = match token {
             FirstToken::Byte(byte) => byte,
@@ -37,7 +37,7 @@ impl TokenSink for OpenCall {
                 self.put_front(text.split_at(begin).1, end - begin)?;
                 return Ok(Taken::UpTo(at + all));
             }
-            FirstToken::Other(token) => return Ok(Taken::Left(token)),
+            FirstToken::Other(token, len) => return Ok(Taken::Left((token, len))),
         };
         let (_, rest) = text.split_at(1);
         if self.role(byte) == Role::Other {
@@ -47,8 +47,8 @@ impl TokenSink for OpenCall {
         }
         match self.take_byte(byte)? {
             None => {}
-            Some(ListEnd::Argument) => return Ok(Taken::Left(Lookahead::EndsArgument)),
-            Some(ListEnd::List) => return Ok(Taken::Left(Lookahead::ClosesList)),
+            Some(ListEnd::Argument) => return Ok(Taken::Left((Lookahead::EndsArgument, 1))),
+            Some(ListEnd::List) => return Ok(Taken::Left((Lookahead::ClosesList, 1))),
         }
         if self.has_begun() {
             return Ok(Taken::UpTo(at + 1));

@@ -23,12 +23,12 @@ pub enum FirstToken {
     Text(usize, usize, usize),
     /// A byte that belongs to no other token.
     Byte(u8),
-    /// Any other token. A turn acts on it.
-    Other(Lookahead),
+    /// Any other token, and how many of its bytes a pass consumes. A turn acts on it.
+    Other(Lookahead, usize),
 }
 
-/// The next token, on which a turn acts. It has no text and no call, since a pass moves it often: the call of a name is
-/// made beside it, as the next call.
+/// The next token, on which a turn acts. A pass consumes it, and hands it on without its length, a text or a call, so
+/// that moving it takes little time: the call of a name is made beside it, as the next call.
 #[derive(Clone, Copy)]
 pub enum Lookahead {
     /// A definition that a call pushed.
@@ -37,21 +37,22 @@ pub enum Lookahead {
     EndsArgument,
     /// The parenthesis that closes the list of the innermost call.
     ClosesList,
-    /// The name of a text macro that is called without a list, and whose text has no dollar: its length. The next call
-    /// has the text as its definition.
-    Expansion(usize),
-    /// The name of the builtin that skips the rest of the line, without a list: its length. No call needs memory for
-    /// it.
-    LineSkip(usize),
-    /// Any other name with a definition, without a list: its length. The next call is its call.
-    Call(usize),
-    /// A name with a definition, which a list follows: its length. The next call is its call.
-    List(usize),
+    /// The name of a text macro that is called without a list, and whose text has no dollar. The next call has the text
+    /// as its definition.
+    Expansion,
+    /// The name of the builtin that skips the rest of the line, without a list. No call needs memory for it.
+    LineSkip,
+    /// Any other name with a definition, without a list. The next call is its call.
+    Call,
+    /// A name with a definition, and the parenthesis of its list. The next call is its call.
+    List,
     /// The end of the input.
     End,
-    /// A string or a comment that the input does not end.
-    Unended(Unended),
-    /// The bytes that were looked at don't decide the token, or whether a list follows a name.
+    /// A string that the input does not end. It is not consumed.
+    UnendedString,
+    /// A comment that the input does not end. It is not consumed.
+    UnendedComment,
+    /// The bytes that were looked at don't decide the token, or whether a list follows a name. None is consumed.
     Undecided,
 }
 
@@ -79,9 +80,14 @@ impl FirstToken {
             Look::Byte(byte) => return Ok(FirstToken::Byte(byte)),
             Look::Quoted(begin, len, all) => return Ok(FirstToken::Text(begin, begin + len, all)),
             Look::Comment(len) => return Ok(FirstToken::Text(0, len, len)),
-            Look::End => return Ok(FirstToken::Other(Lookahead::End)),
-            Look::Unended(what) => return Ok(FirstToken::Other(Lookahead::Unended(what))),
-            Look::NeedsMore => return Ok(FirstToken::Other(Lookahead::Undecided)),
+            Look::End => return Ok(FirstToken::Other(Lookahead::End, 0)),
+            Look::Unended(Unended::InString) => {
+                return Ok(FirstToken::Other(Lookahead::UnendedString, 0));
+            }
+            Look::Unended(Unended::InComment) => {
+                return Ok(FirstToken::Other(Lookahead::UnendedComment, 0));
+            }
+            Look::NeedsMore => return Ok(FirstToken::Other(Lookahead::Undecided, 0)),
         };
         let (name, after) = text.split_at(len);
         let Some(definition) = state.top(name) else {
@@ -90,18 +96,18 @@ impl FirstToken {
         match list_follows(after, delims, more) {
             Answer::Yes => {
                 next.renew(text, len, definition)?;
-                Ok(FirstToken::Other(Lookahead::List(len)))
+                Ok(FirstToken::Other(Lookahead::List, len + 1))
             }
-            Answer::Unknown => Ok(FirstToken::Other(Lookahead::Undecided)),
+            Answer::Unknown => Ok(FirstToken::Other(Lookahead::Undecided, 0)),
             Answer::No => match definition {
                 Def::Text(body) if is_plain(body.as_slice()) => {
                     next.set_definition(definition)?;
-                    Ok(FirstToken::Other(Lookahead::Expansion(len)))
+                    Ok(FirstToken::Other(Lookahead::Expansion, len))
                 }
-                Def::Builtin(Builtin::Dnl) => Ok(FirstToken::Other(Lookahead::LineSkip(len))),
+                Def::Builtin(Builtin::Dnl) => Ok(FirstToken::Other(Lookahead::LineSkip, len)),
                 _ => {
                     next.renew(text, len, definition)?;
-                    Ok(FirstToken::Other(Lookahead::Call(len)))
+                    Ok(FirstToken::Other(Lookahead::Call, len))
                 }
             },
         }

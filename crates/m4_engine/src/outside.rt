@@ -18,8 +18,8 @@ use std::alloc::AllocError;
 pub enum LeftOutside {
     /// The pass puts its text: where that begins and ends in the token, and the length of the token.
     Text(usize, usize, usize),
-    /// A turn acts on it.
-    Other(Lookahead),
+    /// A turn acts on it, and the pass consumes so many bytes of it.
+    Other(Lookahead, usize),
 }
 
 /// What stands outside of calls. It takes plain tokens up to a block of output, and the pass puts their bytes.
@@ -50,7 +50,7 @@ impl TokenSink for Outside {
                 Ok(Taken::Left(LeftOutside::Text(begin, end, all)))
             }
             FirstToken::Byte(_) => Ok(Taken::Left(LeftOutside::Text(0, 1, 1))),
-            FirstToken::Other(token) => Ok(Taken::Left(LeftOutside::Other(token))),
+            FirstToken::Other(token, len) => Ok(Taken::Left(LeftOutside::Other(token, len))),
         }
     }
 

@@ -1,14 +1,12 @@
 -- Files: bytes of which the first were pushed, when some are consumed, put before them or come after them.
 use Rattle.std.proofs.Common.{◌≡◌, ℕ, zero, suc, ◌+◌, ◌-◌, ◌≤◌, List, [], ◌∷◌, ◌++◌, length, take, drop, sym, ap, ◌∙◌, arith}
-use Rattle.std.proofs.lemmas.List.{drop-drop, length-take-le, take-append-le, drop-append-le}
-use Rattle.std.proofs.lemmas.List.Sums.{sum_by-take-drop}
+use Rattle.std.proofs.lemmas.List.{drop-drop, take-take, take-append-drop, length-take-le, take-append-le, drop-append-le}
 use Rattle.std.proofs.Math.Seq.{take-append-add, drop-append-add, take-nil}
-use Rattle.std.specs.Prelude.{cond, ◌==◌}
-use Rattle.m4_input.specs.Ascii.{newline}
 use Rattle.m4_input.specs.Pending.{counted, newlines_in}
 use Rattle.m4_input.specs.Text.{HeldText, text_after, with_text}
 use Rattle.m4_input.specs.FileView.{split_at}
-use Rattle.m4_input.proofs.Parts.{counted_none}
+use Rattle.m4_input.proofs.Parts.{drop_parts, newlines_append}
+use Rattle.m4_input.proofs.Names.{part_has_none}
 
 -- the bytes between two places, counted from either one
 pub between : (n k : ℕ) (w : List ℕ) → drop n (take k w) ≡ take (k - n) (drop n w)
@@ -23,12 +21,20 @@ after_both n k w =
     let e : n + (k - n) ≡ k + (n - k) = omega arith in
     drop-drop (k - n) n w ∙ ap (λ i. drop i w) e ∙ sym (drop-drop (n - k) k w)
 
-pub no_newlines_between : (n k : ℕ) (w : List ℕ) → newlines_in (take n w) ≡ 0 → newlines_in (take (n - k) (drop k w)) ≡ 0
-no_newlines_between n k w none =
-    let all : newlines_in (take k (take n w)) + newlines_in (drop k (take n w)) ≡ newlines_in (take n w) =
-    sum_by-take-drop (λ b. cond (b == newline) 1 0) (take n w) k in
-    let some : newlines_in (drop k (take n w)) ≡ newlines_in (take (n - k) (drop k w)) = ap newlines_in (between k n w) in
-    omega (arith, all, some, none)
+-- the last bytes before a place have no newlines: they count for nothing
+pub no_newlines_after : (i n k : ℕ) (w : List ℕ) → i ≤ n → newlines_in (take i (drop (n - i) w)) ≡ 0
+    → newlines_in (take (n - k) (drop k w)) ≡ newlines_in (take ((n - i) - k) (drop k w))
+no_newlines_after i n k w h none =
+    let a : ℕ = n - i in
+    let y : List ℕ = take n w in
+    let last : n - a ≡ i = omega arith in
+    let rest : newlines_in (drop a y) ≡ 0 = ap newlines_in (between a n w) ∙ ap (λ j. newlines_in (take j (drop a w))) last ∙ none in
+    let first : take a y ≡ take a w = take-take a n w (omega arith) in
+    ap newlines_in (sym (between k n w)) ∙ ap (λ (x : List ℕ). newlines_in (drop k x)) (sym (take-append-drop a y))
+    ∙ ap newlines_in (drop_parts k (take a y) (drop a y))
+    ∙ newlines_append (drop k (take a y)) (drop (k - length (take a y)) (drop a y))
+    ∙ ap (λ m. newlines_in (drop k (take a y)) + m) (part_has_none (k - length (take a y)) (drop a y) rest)
+    ∙ omega arith ∙ ap (λ (x : List ℕ). newlines_in (drop k x)) first ∙ ap newlines_in (between k a w)
 
 -- the first n bytes are consumed, of which those after the first k are the file's
 pub taken : (k n m c : ℕ) (w : List ℕ) → k ≤ length w → c ≡ counted m (newlines_in (take (n - k) (drop k w)))
@@ -43,11 +49,6 @@ taken k n m c w fits count =
       unread = drop j (drop k w);
       newlines = counted m (newlines_in (take j (drop k w)));
     } in s) i
-
-pub pushed_taken : (k n m : ℕ) (w : List ℕ) → n ≤ k → k ≤ length w → split_at (k - n) (drop n w) m ≡ text_after n (split_at k w m)
-pushed_taken k n m w h fits =
-    let none : 0 ≡ n - k = omega arith in
-    taken k n m m w fits (sym (counted_none m) ∙ ap (λ j. counted m (newlines_in (take j (drop k w)))) none)
 
 pub put_first : (k m : ℕ) (x w z : List ℕ) → z ≡ x ++ w → split_at (k + length x) z m ≡ with_text x (split_at k w m)
 put_first k m x w z e =

@@ -26,7 +26,7 @@ take_long zero (b ∷ x) h = absurd (omega arith)
 take_long (suc n) [] h = refl
 take_long (suc n) (b ∷ x) h = ap (λ (z : List ℕ). b ∷ z) (take_long n x (omega arith))
 
-newlines_append : (x y : List ℕ) → newlines_in (x ++ y) ≡ newlines_in x + newlines_in y
+pub newlines_append : (x y : List ℕ) → newlines_in (x ++ y) ≡ newlines_in x + newlines_in y
 newlines_append x y = sum_by-append (λ b. cond (b == newline) 1 0) x y
 
 -- the newlines up to a place that moves on

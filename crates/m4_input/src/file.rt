@@ -5,7 +5,7 @@
 //! text that a call pushes is written over bytes that were read.
 
 ghost use Rattle.std.specs.Prelude.{◌≡◌, ◌+◌, ◌<◌, ◌≤◌, ◌++◌, [], OnOk, OnErr, IfOk, Ok, true, false, length, take};
-ghost use Rattle.std.specs.Prelude.{drop, vec_len, vec_capacity};
+ghost use Rattle.std.specs.Prelude.{◌-◌, drop, vec_len, vec_capacity};
 ghost use Rattle.m4_input.specs.Input.{block};
 ghost use Rattle.m4_input.specs.Text.{text_in, text_after, with_text, TakesBlock, failures_by};
 ghost use Rattle.m4_input.specs.Pending.{newlines_in};
@@ -189,16 +189,17 @@ impl File {
         true
     }
 
-    /// Discards the first n bytes, and counts the newlines in those of the file. It looks at none of them if there are
-    /// no newlines (`inline`).
+    /// Discards the first n bytes, and counts the newlines in those of the file. It looks at none of the last `inline`
+    /// ones, which have no newlines.
     #[inline(always)]
-    pub fn consume(&mut self, n: usize, inline: bool)
-        requires within { n ≤ length (text_in self.old) }
-        requires inline { inline ≡ true → newlines_in (take n (text_in self.old)) ≡ 0 }
+    pub fn consume(&mut self, n: usize, inline: usize)
+        requires within { (inline ≤ n) × (n ≤ length (text_in self.old)) }
+        requires inline { newlines_in (take inline (drop (n - inline) (text_in self.old))) ≡ 0 }
         ensures { self.new ≡ text_after n self.old }
     {
-        if !inline && n > self.pushed {
-            let read = self.rest().split_at(n).0.split_at(self.pushed).1;
+        let others = n - inline;
+        if others > self.pushed {
+            let read = self.rest().split_at(others).0.split_at(self.pushed).1;
             self.newlines = self.newlines.saturating_add(count_newlines(read));
         }
         self.pushed = self.pushed.saturating_sub(n);

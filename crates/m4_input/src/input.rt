@@ -8,7 +8,7 @@
 //! Contracts see `Held` (`specs/Input.antt`). Manual: "How m4 copies input to output".
 
 ghost use Rattle.std.specs.Prelude.{◌≡◌, ◌<◌, ◌≤◌, Some, None, OnOk, OnErr, IfOk, IfErr, IfSome, Ok, Err};
-ghost use Rattle.std.specs.Prelude.{true, false, [], ◌||◌, ◌≢◌, IfNone, length, take};
+ghost use Rattle.std.specs.Prelude.{◌-◌, true, false, [], ◌||◌, ◌≢◌, IfNone, length, take, drop};
 ghost use Rattle.m4_input.specs.Pending.{consumed, line_of, name_of, newlines_in, text_of};
 
 use crate::delims::Delims;
@@ -207,13 +207,13 @@ impl Input {
         self.text.take_buffer()
     }
 
-    /// Discards a definition and the first n bytes. None of them is looked at if there are no newlines among them
-    /// (`inline`), as in a name.
+    /// Discards a definition and the first n bytes. The last `inline` ones have no newlines, as in a name, and are not
+    /// looked at.
     #[doc(hidden)]
     #[inline(always)]
-    pub fn consume(&mut self, n: usize, inline: bool)
-        requires within { n ≤ length (text_of self.old.pending) }
-        requires inline { inline ≡ true → newlines_in (take n (text_of self.old.pending)) ≡ 0 }
+    pub fn consume(&mut self, n: usize, inline: usize)
+        requires within { (inline ≤ n) × (n ≤ length (text_of self.old.pending)) }
+        requires inline { newlines_in (take inline (drop (n - inline) (text_of self.old.pending))) ≡ 0 }
         // exact steps: the rest after n bytes
         ensures { self.new ≡ record self.old { pending = consumed n self.old.pending } }
     {
@@ -298,7 +298,7 @@ impl Input {
             let look = look_by_kind(text, delims, others | self.may_follow);
             match copied(self.alloc, look, text) {
                 Ok(Scan::Found(token, len)) => {
-                    self.consume(len, false);
+                    self.consume(len, 0);
                     return Ok(token);
                 }
                 Ok(Scan::Broken(what)) => return Err(self.end_inside(what)),
@@ -451,11 +451,11 @@ impl Input {
         'fronts: loop {
             let (text, more) = self.text.front();
             if let Some(len) = line_len(text) {
-                self.consume(len, false);
+                self.consume(len, 0);
                 return true;
             }
             let len = text.len();
-            self.consume(len, false);
+            self.consume(len, 0);
             if !more {
                 return !self.may_follow;
             }
@@ -479,7 +479,7 @@ impl Input {
     {
         let line = self.line();
         let len = self.text.len();
-        self.consume(len, false);
+        self.consume(len, 0);
         match what {
             Unended::InString => InputFault::EndInString { line },
             Unended::InComment => InputFault::EndInComment { line },

@@ -6,7 +6,7 @@
 //! bytes takes time in proportion to the number of segments that end in them.
 
 ghost use Rattle.std.specs.Prelude.{◌≡◌, ◌<◌, ◌≤◌, ◌^◌, ◌++◌, ◌+◌, [], IfSome, IfOk, OnOk, OnErr, Ok, true, false};
-ghost use Rattle.std.specs.Prelude.{length, take, drop, nat_lt};
+ghost use Rattle.std.specs.Prelude.{◌-◌, length, take, drop, nat_lt};
 ghost use Rattle.m4_input.specs.Pending.{newlines_in};
 ghost use Rattle.m4_input.specs.Text.{text_in, text_after, with_text, TakesBlock, failures_by};
 
@@ -276,11 +276,11 @@ impl Text {
         buffer
     }
 
-    /// Discards the first n bytes. None of them is looked at if there are no newlines among them (`inline`).
+    /// Discards the first n bytes. The last `inline` ones have no newlines.
     #[inline(always)]
-    pub fn consume(&mut self, n: usize, inline: bool)
-        requires within { n ≤ length (text_in self.old) }
-        requires inline { inline ≡ true → newlines_in (take n (text_in self.old)) ≡ 0 }
+    pub fn consume(&mut self, n: usize, inline: usize)
+        requires within { (inline ≤ n) × (n ≤ length (text_in self.old)) }
+        requires inline { newlines_in (take inline (drop (n - inline) (text_in self.old))) ≡ 0 }
         ensures { self.new ≡ text_after n self.old }
     {
         if self.top.len() == 0 {
@@ -305,7 +305,7 @@ impl Text {
             let Some(next) = self.below.pop() else {
                 let spent = std::mem::replace(&mut self.top, Segment::of(Bytes::empty()));
                 keep(&mut self.buffer, spent.buffer());
-                self.file.consume(left, false);
+                self.file.consume(left, 0);
                 return;
             };
             self.held -= next.len();

@@ -1,12 +1,9 @@
 //! The ends of arguments: a comma ends one, and a parenthesis the last one and its list.
 //! Manual: "Macro arguments".
 
-ghost use Rattle.std.specs.Prelude.{◌≡◌, None, OnOk, OnErr};
-ghost use Rattle.m4_input.specs.Pending.{text_of};
-ghost use Rattle.m4_engine.specs.Engine.{ending_argument, IfHead, IsReady, KeepsOutput};
-ghost use Rattle.m4_engine.specs.Lookahead.{IsEndIn};
-ghost use Rattle.m4_engine.specs.Turns.{Turns};
-ghost use Rattle.m4_engine.specs.declared.role.ListEnd.TheVariants as ends;
+ghost use Rattle.std.specs.Prelude.{◌≡◌, ◌≢◌, [], OnOk, OnErr};
+ghost use Rattle.m4_engine.specs.Engine.{ending_argument, IfHead, KeepsOutput, outer_of};
+ghost use Rattle.m4_engine.specs.Turns.{IsTaken, StepsBy, close_in, step};
 
 use crate::machine::Machine;
 use crate::turned::{TurnFault, Turned};
@@ -33,17 +30,16 @@ impl Machine {
         Ok(())
     }
 
-    /// Consumes the parenthesis that comes first and closes the innermost list, and makes the call of that.
+    /// Closes the innermost list, whose parenthesis was consumed, and makes its call.
     #[inline(always)]
     pub(super) fn take_closing(&mut self, input: &mut Input) -> Result<Turned, TurnFault>
-        requires ready { IsReady input.old }
-        requires first { input.old.pending.definition ≡ None }
-        requires closes { IsEndIn ends.List self.old.open_calls self.old.state input.old.pending.may_follow
-            (text_of input.old.pending) }
-        ensures turns { Turns result self.old self.new input.old input.new }
+        requires taken { IsTaken input.old }
+        requires list { IfHead self.old.open_calls (λ c. c.parentheses ≡ 0) }
+        requires inside { self.old.open_calls ≢ [] }
+        ensures steps { StepsBy result self.old self.new input.old input.new
+            (λ s. step (outer_of self.old.open_calls) (close_in self.old.open_calls s)) }
         ensures kept { OnErr result (KeepsOutput self.old self.new) }
     {
-        input.consume(1, true);
         self.end_argument()?;
         self.call(input)
     }

@@ -4,9 +4,9 @@
 //! A pass consumes tokens of one text, the bytes at the start of the input. If they leave a token open and others in
 //! hand come after them, the next pass has a longer text.
 
-ghost use Rattle.std.specs.Prelude.{◌≡◌, None, [], IfOk, IfSome, OnOk, OnErr};
+ghost use Rattle.std.specs.Prelude.{◌≡◌, [], IfOk, OnOk, OnErr};
 ghost use Rattle.m4_engine.specs.Engine.{IsReady, KeepsOutput, put_in};
-ghost use Rattle.m4_engine.specs.Passes.{IsFull, IsLookahead, PassesBy, Passes};
+ghost use Rattle.m4_engine.specs.Passes.{PassesBy, PassesTo};
 
 use super::OUTPUT_BLOCK;
 use crate::call::OpenCall;
@@ -20,9 +20,9 @@ use m4_state::append::append;
 
 impl Machine {
     /// Consumes leading tokens that need no turn: outside of calls up to a block of plain text, and in a list the
-    /// tokens that only extend the innermost call. The effect is that of as many turns. Returns the next token, whose
-    /// call `next` becomes, or none if a block of output is full: it is to be flushed first. `copy` is a buffer for a
-    /// token that spans several texts.
+    /// tokens that only extend the innermost call. The effect is that of as many turns. Then it consumes the next token
+    /// and returns it, and `next` becomes its call; or it returns none if a block of output is full, which is to be
+    /// flushed first. `copy` is a buffer for a token that spans several texts.
     #[inline(always)]
     pub fn pass_plain(
         &mut self,
@@ -31,9 +31,7 @@ impl Machine {
         next: &mut OpenCall,
     ) -> Result<Option<Lookahead>, TurnFault>
         requires { IsReady input.old }
-        ensures passes { OnOk result (Passes self.old self.new input.old input.new) }
-        ensures lookahead { IfOk result (λ o. IfSome o (λ a. IsLookahead a next.new self.new input.new.pending)) }
-        ensures full { IfOk result (λ o. o ≡ None → IsFull self.new) }
+        ensures passes { IfOk result (λ o. PassesTo o next.new self.old self.new input.old input.new) }
         ensures kept { OnErr result (KeepsOutput self.old self.new) }
     {
         let mut looked = 0;
@@ -42,9 +40,9 @@ impl Machine {
                 return Ok(Some(Lookahead::Definition));
             };
             let more = others | input.may_follow();
-            let (len, lookahead) = self.pass_text(text, more, next)?;
+            let (len, token, lookahead) = self.pass_text(text, more, next)?;
             let left = text.len() - len;
-            input.consume(len, false);
+            input.consume(len + token, token);
             let Some(found) = lookahead else {
                 if self.output.len() >= OUTPUT_BLOCK {
                     return Ok(None);
@@ -67,24 +65,24 @@ impl Machine {
     }
 
     /// Passes the tokens at the start of a text: in a list it collects them into the innermost call. `more` is whether
-    /// bytes may come after the text. Returns how many bytes were passed, and the lookahead for the token after them,
-    /// if it was looked at.
+    /// bytes may come after the text. Returns how many bytes were passed, how many of the token after them are to be
+    /// consumed, and the lookahead for it, if it was looked at.
     #[inline(always)]
     fn pass_text(
         &mut self,
         text: &[u8],
         more: bool,
         next: &mut OpenCall,
-    ) -> Result<(usize, Option<Lookahead>), TurnFault>
-        ensures passes { IfOk result (λ r. PassesBy r.0 r.1 next.new text.now more self.old self.new) }
+    ) -> Result<(usize, usize, Option<Lookahead>), TurnFault>
+        ensures passes { IfOk result (λ r. PassesBy r.0 r.1 r.2 next.new text.now more self.old self.new) }
         ensures kept { OnErr result (KeepsOutput self.old self.new) }
     {
         if self.depth == 0 {
             return self.pass_outside(text, more, next);
         }
         let call = &mut self.stack[self.depth - 1];
-        let (len, lookahead) = pass_tokens(call, text, &self.state, next, more)?;
-        Ok((len, Some(lookahead)))
+        let (len, (lookahead, token)) = pass_tokens(call, text, &self.state, next, more)?;
+        Ok((len, token, Some(lookahead)))
     }
 
     /// Passes up to a block of tokens outside of calls, and the text of one after them if no block of output is full.
@@ -95,20 +93,20 @@ impl Machine {
         text: &[u8],
         more: bool,
         next: &mut OpenCall,
-    ) -> Result<(usize, Option<Lookahead>), TurnFault>
+    ) -> Result<(usize, usize, Option<Lookahead>), TurnFault>
         requires outside { self.old.open_calls ≡ [] }
-        ensures passes { IfOk result (λ r. PassesBy r.0 r.1 next.new text.now more self.old self.new) }
+        ensures passes { IfOk result (λ r. PassesBy r.0 r.1 r.2 next.new text.now more self.old self.new) }
         ensures kept { OnErr result (KeepsOutput self.old self.new) }
     {
         let (len, left) = pass_tokens(&mut Outside, text, &self.state, next, more)?;
         let (passed, rest) = text.split_at(len);
         self.put_outside(passed)?;
         match left {
-            LeftOutside::Other(lookahead) => Ok((len, Some(lookahead))),
-            LeftOutside::Text(..) if self.output.len() >= OUTPUT_BLOCK => Ok((len, None)),
+            LeftOutside::Other(lookahead, token) => Ok((len, token, Some(lookahead))),
+            LeftOutside::Text(..) if self.output.len() >= OUTPUT_BLOCK => Ok((len, 0, None)),
             LeftOutside::Text(begin, end, all) => {
                 self.put_text(rest.split_at(begin).1.split_at(end - begin).0)?;
-                Ok((len + all, None))
+                Ok((len + all, 0, None))
             }
         }
     }

@@ -129,7 +129,7 @@ fn take_but_seven(alloc: Global, input: &mut Input) -> Result<(), AllocError>
     ensures { OnOk result (input.new.pending.definition ≡ None) }
 {
     let len = in_hand(alloc, input)?.len().saturating_sub(7);
-    input.consume(len, false);
+    input.consume(len, 0);
     Ok(())
 }
 

@@ -207,7 +207,7 @@ fn take(alloc: Global, input: &mut Input, n: usize) -> Result<Vec<u8>, AllocErro
         let front = in_hand(alloc, input)?;
         let len = front.len().min(n.saturating_sub(taken.len()));
         taken.extend_from_slice(front.split_at(len).0)?;
-        input.consume(len, false);
+        input.consume(len, 0);
     }
     Ok(taken)
 }

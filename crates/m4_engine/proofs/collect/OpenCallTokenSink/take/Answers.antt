@@ -75,15 +75,15 @@ returns-clause-takes c = λ s next m first q d ahead before.
 pub returns-in-Some-Argument-clause-left : goal.returns-in-Some-Argument-clause-left
 returns-in-Some-Argument-clause-left c = λ s next m ahead cs.
     let h = subst (λ (a : FirstToken). IsFirst a next s m (drop c.args.at c.args.text.now)) c.in-Byte.is ahead in
-    record { byte = c.in-Byte.byte; scanned = h.0; ends = search rules }
+    (refl, record { byte = c.in-Byte.byte; scanned = h.0; ends = search rules })
 
 pub returns-in-Some-List-clause-left : goal.returns-in-Some-List-clause-left
 returns-in-Some-List-clause-left c = λ s next m ahead cs.
     let h = subst (λ (a : FirstToken). IsFirst a next s m (drop c.args.at c.args.text.now)) c.in-Byte.is ahead in
-    record { byte = c.in-Byte.byte; scanned = h.0; ends = search rules }
+    (refl, record { byte = c.in-Byte.byte; scanned = h.0; ends = search rules })
 
 -- any other token
 pub returns-in-Other-clause-left : goal.returns-in-Other-clause-left
 returns-in-Other-clause-left c = λ s next m ahead cs.
-    ahead_next c.in-Other.token (c.args.self.now ∷ cs) next s m (drop c.args.at c.args.text.now)
+    ahead_next c.in-Other.token c.in-Other.len (c.args.self.now ∷ cs) next s m (drop c.args.at c.args.text.now)
     (subst (λ (a : FirstToken). IsFirst a next s m (drop c.args.at c.args.text.now)) c.in-Other.is ahead)

@@ -7,7 +7,7 @@ use Rattle.m4_engine.proofs.Running.{fell_past_line, ended, needed, needs_line_a
 use Rattle.m4_engine.proofs.Running.{write_breaks_in_order, in_order_end, needs_line}
 use Rattle.m4_engine.proofs.Running.{breaks, lack_breaks_in_order, filled, filled_on}
 use Rattle.m4_engine.proofs.Running.{line_done_by, hand_ends, lack_gives, lack_gives_in_order, lack_counted}
-use Rattle.m4_engine.proofs.Passing.{passes_ready, passes_messages}
+use Rattle.m4_engine.proofs.Passing.{passes_messages, to_none, to_some}
 use Rattle.m4_engine.specs.Engine.{Engine}
 use Rattle.m4_engine.proofs.machine.Machine.expand_in_hand.Goals.{in_default-via-in-Token-1, in_default-via-in-Line+else-not-skip_in_hand}
 use Rattle.m4_engine.proofs.machine.Machine.expand_in_hand.Goals as goal
@@ -19,44 +19,48 @@ pub pass_plain-requires : goal.pass_plain-requires
 pass_plain-requires g c = c.turns.invariant.runs.ready
 
 pub turn-requires : goal.turn-requires
-turn-requires g c = record {
-  ready = passes_ready c.turns.self c.pass_plain.new.self c.turns.input c.pass_plain.new.input c.turns.invariant.runs.ready c.in-Ok.ensures.passes;
-  lookahead = search rules;
-}
+turn-requires g c = let w = to_some c.in-Ok.lookahead c.in-Some.lookahead c.pass_plain.new.next c.turns.self c.pass_plain.new.self c.turns.input c.pass_plain.new.input c.in-Some.is c.in-Ok.ensures.passes in record { seen = (w.0, w.2) }
 
 -- a block of output is full
 pub write_block-requires : goal.write_block-requires
-write_block-requires g c = record {
-  quiet = passes_messages c.turns.self c.pass_plain.new.self c.turns.input c.pass_plain.new.input c.in-Ok.ensures.passes ∙ c.turns.invariant.quiet;
-}
+write_block-requires g c =
+    let w = to_none c.in-Ok.lookahead c.pass_plain.new.next c.turns.self c.pass_plain.new.self c.turns.input c.pass_plain.new.input (search rules) c.in-Ok.ensures.passes in
+    record {
+      quiet = passes_messages c.turns.self c.pass_plain.new.self c.turns.input c.pass_plain.new.input w.0 ∙ c.turns.invariant.quiet;
+    }
 
 pub returns-in-Err-clause-gives : goal.returns-in-Err-clause-gives
 returns-in-Err-clause-gives g c =
+    let w = to_none c.in-Ok.lookahead c.pass_plain.new.next c.turns.self c.pass_plain.new.self c.turns.input c.pass_plain.new.input (search rules) c.in-Ok.ensures.passes in
     let r = passed c.args.wanted c.args.self.now c.turns.self c.pass_plain.new.self c.args.input.now.pending
-    c.turns.input c.pass_plain.new.input _ _ _ _ c.turns.invariant.runs c.in-Ok.ensures.passes in
+    c.turns.input c.pass_plain.new.input _ _ _ _ c.turns.invariant.runs w.0 in
     breaks c.args.wanted c.args.self.now c.pass_plain.new.self c.args.input.now.pending c.pass_plain.new.input _ _ _ _ _ r c.in-Err.ensures.puts
 
 pub returns-in-Err-clause-order : goal.returns-in-Err-clause-order
 returns-in-Err-clause-order g c =
+    let w = to_none c.in-Ok.lookahead c.pass_plain.new.next c.turns.self c.pass_plain.new.self c.turns.input c.pass_plain.new.input (search rules) c.in-Ok.ensures.passes in
     let r = passed c.args.wanted c.args.self.now c.turns.self c.pass_plain.new.self c.args.input.now.pending
-    c.turns.input c.pass_plain.new.input _ _ _ _ c.turns.invariant.runs c.in-Ok.ensures.passes in
+    c.turns.input c.pass_plain.new.input _ _ _ _ c.turns.invariant.runs w.0 in
     lack_breaks_in_order c.args.wanted c.args.self.now c.pass_plain.new.self c.args.input.now.pending c.pass_plain.new.input
     _ _ _ _ _ r
-    (passes_messages c.turns.self c.pass_plain.new.self c.turns.input c.pass_plain.new.input c.in-Ok.ensures.passes ∙ c.turns.invariant.quiet)
+    (passes_messages c.turns.self c.pass_plain.new.self c.turns.input c.pass_plain.new.input w.0 ∙ c.turns.invariant.quiet)
     c.in-Err.ensures.puts
 
 pub turns-smaller-in_default-lookahead : goal.turns-smaller-in_default-lookahead
-turns-smaller-in_default-lookahead g c = filled c.turns.self c.pass_plain.new.self c.write_block.new.self c.turns.input c.pass_plain.new.input
-    c.in-Ok.ensures.passes c.turns.invariant.few (search rules) c.in_default-write_block.ensures.engine
+turns-smaller-in_default-lookahead g c =
+    let w = to_none c.in-Ok.lookahead c.pass_plain.new.next c.turns.self c.pass_plain.new.self c.turns.input c.pass_plain.new.input (search rules) c.in-Ok.ensures.passes in
+    filled c.turns.self c.pass_plain.new.self c.write_block.new.self c.turns.input c.pass_plain.new.input
+    w.0 c.turns.invariant.few (search rules) c.in_default-write_block.ensures.engine
 
 pub turns-preserved-in_default-lookahead : goal.turns-preserved-in_default-lookahead
 turns-preserved-in_default-lookahead g c =
+    let w = to_none c.in-Ok.lookahead c.pass_plain.new.next c.turns.self c.pass_plain.new.self c.turns.input c.pass_plain.new.input (search rules) c.in-Ok.ensures.passes in
     let r = passed c.args.wanted c.args.self.now c.turns.self c.pass_plain.new.self c.args.input.now.pending
-    c.turns.input c.pass_plain.new.input _ _ _ _ c.turns.invariant.runs c.in-Ok.ensures.passes in
+    c.turns.input c.pass_plain.new.input _ _ _ _ c.turns.invariant.runs w.0 in
     record {
       runs = filled_on c.args.wanted c.args.self.now c.pass_plain.new.self c.write_block.new.self c.args.input.now.pending c.pass_plain.new.input
           _ _ _ _ _ r
-          (passes_messages c.turns.self c.pass_plain.new.self c.turns.input c.pass_plain.new.input c.in-Ok.ensures.passes ∙ c.turns.invariant.quiet)
+          (passes_messages c.turns.self c.pass_plain.new.self c.turns.input c.pass_plain.new.input w.0 ∙ c.turns.invariant.quiet)
           c.in_default-write_block.ensures.engine c.in_default-write_block.ensures.puts;
       quiet = ap (λ (d : Engine). d.messages) c.in_default-write_block.ensures.engine;
       few = few_left _ (ap (λ (d : Engine). d.output) c.in_default-write_block.ensures.engine);
@@ -72,10 +76,11 @@ returns-in_default-clause-gives g c = lack_gives c.args.wanted c.args.self.now c
 
 pub returns-in_default-turn-clause-gives : goal.returns-in_default-turn-clause-gives
 returns-in_default-turn-clause-gives g c =
+    let w = to_some c.in-Ok.lookahead c.in-Some.lookahead c.pass_plain.new.next c.turns.self c.pass_plain.new.self c.turns.input c.pass_plain.new.input c.in-Some.is c.in-Ok.ensures.passes in
     let r = passed c.args.wanted c.args.self.now c.turns.self c.pass_plain.new.self c.args.input.now.pending
-    c.turns.input c.pass_plain.new.input _ _ _ _ c.turns.invariant.runs c.in-Ok.ensures.passes in
+    c.turns.input w.0 _ _ _ _ c.turns.invariant.runs w.1 in
     lack_gives c.args.wanted c.args.self.now c.pass_plain.new.self c.turn.new.self c.turn.new.self
-    c.args.input.now c.pass_plain.new.input c.turn.new.input c.len-earlier.result _ _ _ _ _ c.give_out-in_default-turn.result
+    c.args.input.now w.0 c.turn.new.input c.len-earlier.result _ _ _ _ _ c.give_out-in_default-turn.result
     r (search rules) c.in_default-turn.ensures.kept c.give_out-in_default-turn.ensures.gives
 
 pub returns-clause-gives : goal.returns-clause-gives
@@ -103,26 +108,33 @@ turns-init g c = record {
 
 pub returns-in-Err-flush-clause-gives : goal.returns-in-Err-flush-clause-gives
 returns-in-Err-flush-clause-gives g c =
+    let w = to_some c.in-Ok.lookahead c.in-Some.lookahead c.pass_plain.new.next c.turns.self c.pass_plain.new.self c.turns.input c.pass_plain.new.input c.in-Some.is c.in-Ok.ensures.passes in
+    let t = c.in-Ok-turn.ensures.turns w.0 w.2 in
     let r = passed c.args.wanted c.args.self.now c.turns.self c.pass_plain.new.self c.args.input.now.pending
-    c.turns.input c.pass_plain.new.input _ _ _ _ c.turns.invariant.runs c.in-Ok.ensures.passes in
+    c.turns.input w.0 _ _ _ _ c.turns.invariant.runs w.1 in
     write_breaks c.args.wanted c.args.self.now c.pass_plain.new.self c.turn.new.self c.args.input.now.pending
-    c.pass_plain.new.input c.turn.new.input c.in-Ok-turn.turned _ _ _ _ _ _ r c.in-Ok-turn.ensures.turns.moves
-    c.in-Ok-turn.ensures.turns.made c.in-Err-flush.ensures.begun
+    w.0 c.turn.new.input c.in-Ok-turn.turned _ _ _ _ _ _ r t.moves
+    t.made c.in-Err-flush.ensures.begun
 
 pub turns-smaller-in-turns : goal.turns-smaller-in-turns
-turns-smaller-in-turns g c = fell c.turns.self c.pass_plain.new.self c.turn.new.self
-    c.turn.new.self c.turns.input c.pass_plain.new.input c.turn.new.input _ _ _ _ c.in-Ok-turn.turned
-    c.in-Ok.ensures.passes c.in-Ok-turn.ensures.turns.moves c.in-Ok-turn.ensures.turns.ready c.in-GoesOn.is
+turns-smaller-in-turns g c =
+    let w = to_some c.in-Ok.lookahead c.in-Some.lookahead c.pass_plain.new.next c.turns.self c.pass_plain.new.self c.turns.input c.pass_plain.new.input c.in-Some.is c.in-Ok.ensures.passes in
+    let t = c.in-Ok-turn.ensures.turns w.0 w.2 in
+    fell c.turns.self c.pass_plain.new.self c.turn.new.self
+    c.turn.new.self c.turns.input w.0 c.turn.new.input _ _ _ _ c.in-Ok-turn.turned
+    w.1 t.moves t.ready c.in-GoesOn.is
     (due_none c.turn.new.self (g.O.ByteSink.contents c.turns.out) (g.M.ByteSink.contents c.turns.messages))
 
 pub turns-preserved-in-turns : goal.turns-preserved-in-turns
 turns-preserved-in-turns g c =
+    let w = to_some c.in-Ok.lookahead c.in-Some.lookahead c.pass_plain.new.next c.turns.self c.pass_plain.new.self c.turns.input c.pass_plain.new.input c.in-Some.is c.in-Ok.ensures.passes in
+    let t = c.in-Ok-turn.ensures.turns w.0 w.2 in
     let r = passed c.args.wanted c.args.self.now c.turns.self c.pass_plain.new.self c.args.input.now.pending
-    c.turns.input c.pass_plain.new.input _ _ _ _ c.turns.invariant.runs c.in-Ok.ensures.passes in
+    c.turns.input w.0 _ _ _ _ c.turns.invariant.runs w.1 in
     record {
       runs = went_on c.args.wanted c.args.self.now c.pass_plain.new.self c.turn.new.self c.turn.new.self
-          c.args.input.now.pending c.pass_plain.new.input c.turn.new.input _ _ _ _ _ _ c.in-Ok-turn.turned r
-          c.in-Ok-turn.ensures.turns.moves c.in-Ok-turn.ensures.turns.ready c.in-GoesOn.is c.in-Ok-turn.ensures.turns.limits
+          c.args.input.now.pending w.0 c.turn.new.input _ _ _ _ _ _ c.in-Ok-turn.turned r
+          t.moves t.ready c.in-GoesOn.is t.limits
           (due_none c.turn.new.self (g.O.ByteSink.contents c.turns.out) (g.M.ByteSink.contents c.turns.messages));
       quiet = nil_from_length c.turn.new.self.messages (search rules);
       few = search rules;
@@ -131,19 +143,24 @@ turns-preserved-in-turns g c =
     }
 
 pub turns-smaller-in-GoesOn-turned : goal.turns-smaller-in-GoesOn-turned
-turns-smaller-in-GoesOn-turned g c = fell c.turns.self c.pass_plain.new.self c.turn.new.self
-    c.flush.new.self c.turns.input c.pass_plain.new.input c.turn.new.input _ _ _ _ c.in-Ok-turn.turned
-    c.in-Ok.ensures.passes c.in-Ok-turn.ensures.turns.moves c.in-Ok-turn.ensures.turns.ready c.in-GoesOn-turned.is
+turns-smaller-in-GoesOn-turned g c =
+    let w = to_some c.in-Ok.lookahead c.in-Some.lookahead c.pass_plain.new.next c.turns.self c.pass_plain.new.self c.turns.input c.pass_plain.new.input c.in-Some.is c.in-Ok.ensures.passes in
+    let t = c.in-Ok-turn.ensures.turns w.0 w.2 in
+    fell c.turns.self c.pass_plain.new.self c.turn.new.self
+    c.flush.new.self c.turns.input w.0 c.turn.new.input _ _ _ _ c.in-Ok-turn.turned
+    w.1 t.moves t.ready c.in-GoesOn-turned.is
     (due_all c.turn.new.self c.flush.new.self _ _ _ _ c.in_default-flush.ensures.engine c.in_default-flush.ensures.output c.in_default-flush.ensures.messages)
 
 pub turns-preserved-in-GoesOn-turned : goal.turns-preserved-in-GoesOn-turned
 turns-preserved-in-GoesOn-turned g c =
+    let w = to_some c.in-Ok.lookahead c.in-Some.lookahead c.pass_plain.new.next c.turns.self c.pass_plain.new.self c.turns.input c.pass_plain.new.input c.in-Some.is c.in-Ok.ensures.passes in
+    let t = c.in-Ok-turn.ensures.turns w.0 w.2 in
     let r = passed c.args.wanted c.args.self.now c.turns.self c.pass_plain.new.self c.args.input.now.pending
-    c.turns.input c.pass_plain.new.input _ _ _ _ c.turns.invariant.runs c.in-Ok.ensures.passes in
+    c.turns.input w.0 _ _ _ _ c.turns.invariant.runs w.1 in
     record {
       runs = went_on c.args.wanted c.args.self.now c.pass_plain.new.self c.turn.new.self c.flush.new.self
-          c.args.input.now.pending c.pass_plain.new.input c.turn.new.input _ _ _ _ _ _ c.in-Ok-turn.turned r
-          c.in-Ok-turn.ensures.turns.moves c.in-Ok-turn.ensures.turns.ready c.in-GoesOn-turned.is c.in-Ok-turn.ensures.turns.limits
+          c.args.input.now.pending w.0 c.turn.new.input _ _ _ _ _ _ c.in-Ok-turn.turned r
+          t.moves t.ready c.in-GoesOn-turned.is t.limits
           (due_all c.turn.new.self c.flush.new.self _ _ _ _ c.in_default-flush.ensures.engine
           c.in_default-flush.ensures.output c.in_default-flush.ensures.messages);
       quiet = ap (λ (d : Engine). d.messages) c.in_default-flush.ensures.engine;
@@ -154,21 +171,25 @@ turns-preserved-in-GoesOn-turned g c =
 
 pub flush-requires : goal.flush-requires
 flush-requires g c =
+    let w = to_some c.in-Ok.lookahead c.in-Some.lookahead c.pass_plain.new.next c.turns.self c.pass_plain.new.self c.turns.input c.pass_plain.new.input c.in-Some.is c.in-Ok.ensures.passes in
+    let t = c.in-Ok-turn.ensures.turns w.0 w.2 in
     let held : c.len-earlier.result ≡ length c.pass_plain.new.self.output = search rules in
     let grows : length c.pass_plain.new.self.output ≤ length c.turn.new.self.output =
-    output_stays c.pass_plain.new.self c.turn.new.self c.pass_plain.new.input c.turn.new.input c.in-Ok-turn.turned
-    c.in-Ok-turn.ensures.turns.moves c.in-Ok-turn.ensures.turns.made in
+    output_stays c.pass_plain.new.self c.turn.new.self w.0 c.turn.new.input c.in-Ok-turn.turned
+    t.moves t.made in
     omega arith
 
 pub returns-then-not-skip_in_hand-2-clause-gives : goal.returns-then-not-skip_in_hand-2-clause-gives
 returns-then-not-skip_in_hand-2-clause-gives g c =
+    let w = to_some c.in-Ok.lookahead c.in-Some.lookahead c.pass_plain.new.next c.turns.self c.pass_plain.new.self c.turns.input c.pass_plain.new.input c.in-Some.is c.in-Ok.ensures.passes in
+    let t = c.in-Ok-turn.ensures.turns w.0 w.2 in
     let r = passed c.args.wanted c.args.self.now c.turns.self c.pass_plain.new.self c.args.input.now.pending
-    c.turns.input c.pass_plain.new.input _ _ _ _ c.turns.invariant.runs c.in-Ok.ensures.passes in
+    c.turns.input w.0 _ _ _ _ c.turns.invariant.runs w.1 in
     needs_line_after c.args.wanted c.args.self.now c.pass_plain.new.self c.turn.new.self c.flush.new.self
-    c.args.input.now.pending c.args.input.now c.pass_plain.new.input c.turn.new.input c.skip_in_hand-in-SkipsLine.new.self _ _
-    _ _ _ _ c.in-Ok-turn.turned refl r c.in-Ok-turn.ensures.turns.moves c.in-Ok-turn.ensures.turns.ready c.in-SkipsLine.is
-    c.in-Ok-turn.ensures.turns.limits
-    (passes_messages c.turns.self c.pass_plain.new.self c.turns.input c.pass_plain.new.input c.in-Ok.ensures.passes
+    c.args.input.now.pending c.args.input.now w.0 c.turn.new.input c.skip_in_hand-in-SkipsLine.new.self _ _
+    _ _ _ _ c.in-Ok-turn.turned refl r t.moves t.ready c.in-SkipsLine.is
+    t.limits
+    (passes_messages c.turns.self c.pass_plain.new.self c.turns.input w.0 w.1
     ∙ c.turns.invariant.quiet)
     c.in_default-flush.ensures.engine c.in_default-flush.ensures.output
     c.in_default-flush.ensures.messages
@@ -176,9 +197,12 @@ returns-then-not-skip_in_hand-2-clause-gives g c =
     c.skip_in_hand-in-SkipsLine.ensures)
 
 pub turns-smaller : goal.turns-smaller
-turns-smaller g c = fell_past_line c.turns.self c.pass_plain.new.self c.turn.new.self c.flush.new.self c.turns.input
-    c.pass_plain.new.input c.turn.new.input c.skip_in_hand-in-SkipsLine.new.self _ _ _ _ c.in-Ok-turn.turned c.in-Ok.ensures.passes
-    c.in-Ok-turn.ensures.turns.moves c.in-Ok-turn.ensures.turns.ready c.in-SkipsLine.is
+turns-smaller g c =
+    let w = to_some c.in-Ok.lookahead c.in-Some.lookahead c.pass_plain.new.next c.turns.self c.pass_plain.new.self c.turns.input c.pass_plain.new.input c.in-Some.is c.in-Ok.ensures.passes in
+    let t = c.in-Ok-turn.ensures.turns w.0 w.2 in
+    fell_past_line c.turns.self c.pass_plain.new.self c.turn.new.self c.flush.new.self c.turns.input
+    w.0 c.turn.new.input c.skip_in_hand-in-SkipsLine.new.self _ _ _ _ c.in-Ok-turn.turned w.1
+    t.moves t.ready c.in-SkipsLine.is
     (due_all c.turn.new.self c.flush.new.self _ _ _ _ c.in_default-flush.ensures.engine
     c.in_default-flush.ensures.output c.in_default-flush.ensures.messages)
     (line_done_by c.turn.new.input c.skip_in_hand-in-SkipsLine.new.self c.skip_in_hand-in-SkipsLine.result true (search rules)
@@ -186,13 +210,15 @@ turns-smaller g c = fell_past_line c.turns.self c.pass_plain.new.self c.turn.new
 
 pub turns-preserved : goal.turns-preserved
 turns-preserved g c =
+    let w = to_some c.in-Ok.lookahead c.in-Some.lookahead c.pass_plain.new.next c.turns.self c.pass_plain.new.self c.turns.input c.pass_plain.new.input c.in-Some.is c.in-Ok.ensures.passes in
+    let t = c.in-Ok-turn.ensures.turns w.0 w.2 in
     let r = passed c.args.wanted c.args.self.now c.turns.self c.pass_plain.new.self c.args.input.now.pending
-    c.turns.input c.pass_plain.new.input _ _ _ _ c.turns.invariant.runs c.in-Ok.ensures.passes in
+    c.turns.input w.0 _ _ _ _ c.turns.invariant.runs w.1 in
     record {
       runs = went_past_line c.args.wanted c.args.self.now c.pass_plain.new.self c.turn.new.self c.flush.new.self
-          c.args.input.now.pending c.pass_plain.new.input c.turn.new.input c.skip_in_hand-in-SkipsLine.new.self _ _ _ _ _ _
-          c.in-Ok-turn.turned r c.in-Ok-turn.ensures.turns.moves c.in-Ok-turn.ensures.turns.ready c.in-SkipsLine.is
-          c.in-Ok-turn.ensures.turns.limits
+          c.args.input.now.pending w.0 c.turn.new.input c.skip_in_hand-in-SkipsLine.new.self _ _ _ _ _ _
+          c.in-Ok-turn.turned r t.moves t.ready c.in-SkipsLine.is
+          t.limits
           (due_all c.turn.new.self c.flush.new.self _ _ _ _ c.in_default-flush.ensures.engine
           c.in_default-flush.ensures.output c.in_default-flush.ensures.messages)
           (line_done_by c.turn.new.input c.skip_in_hand-in-SkipsLine.new.self c.skip_in_hand-in-SkipsLine.result true (search rules)
@@ -205,31 +231,37 @@ turns-preserved g c =
 
 pub returns-in-NeedsMore-clause-gives : goal.returns-in-NeedsMore-clause-gives
 returns-in-NeedsMore-clause-gives g c =
+    let w = to_some c.in-Ok.lookahead c.in-Some.lookahead c.pass_plain.new.next c.turns.self c.pass_plain.new.self c.turns.input c.pass_plain.new.input c.in-Some.is c.in-Ok.ensures.passes in
+    let t = c.in-Ok-turn.ensures.turns w.0 w.2 in
     let r = passed c.args.wanted c.args.self.now c.turns.self c.pass_plain.new.self c.args.input.now.pending
-    c.turns.input c.pass_plain.new.input _ _ _ _ c.turns.invariant.runs c.in-Ok.ensures.passes in
+    c.turns.input w.0 _ _ _ _ c.turns.invariant.runs w.1 in
     needed c.args.wanted c.args.self.now c.pass_plain.new.self c.turn.new.self c.flush.new.self
-    c.args.input.now.pending c.args.input.now c.pass_plain.new.input c.turn.new.input _ _ _ _ _ _
-    c.in-Ok-turn.turned refl r c.in-Ok-turn.ensures.turns.made c.in-NeedsMore.is c.in_default-flush.ensures.engine
+    c.args.input.now.pending c.args.input.now w.0 c.turn.new.input _ _ _ _ _ _
+    c.in-Ok-turn.turned refl r t.made c.in-NeedsMore.is c.in_default-flush.ensures.engine
     c.in_default-flush.ensures.output c.in_default-flush.ensures.messages
 
 pub returns-in-Ends-clause-gives : goal.returns-in-Ends-clause-gives
 returns-in-Ends-clause-gives g c =
+    let w = to_some c.in-Ok.lookahead c.in-Some.lookahead c.pass_plain.new.next c.turns.self c.pass_plain.new.self c.turns.input c.pass_plain.new.input c.in-Some.is c.in-Ok.ensures.passes in
+    let t = c.in-Ok-turn.ensures.turns w.0 w.2 in
     let r = passed c.args.wanted c.args.self.now c.turns.self c.pass_plain.new.self c.args.input.now.pending
-    c.turns.input c.pass_plain.new.input _ _ _ _ c.turns.invariant.runs c.in-Ok.ensures.passes in
+    c.turns.input w.0 _ _ _ _ c.turns.invariant.runs w.1 in
     hand_ends c.args.wanted c.args.self.now c.flush.new.self c.args.input.now c.turn.new.input _ c.in-Ends.end _ c.cause.ensures
     (ended c.args.wanted c.args.self.now c.pass_plain.new.self c.turn.new.self c.flush.new.self
-    c.args.input.now.pending c.turn.new.input.pending c.pass_plain.new.input _ _ _ _ _ _ c.in-Ok-turn.turned
-    c.in-Ends.end r c.in-Ok-turn.ensures.turns.moves c.in-Ends.is c.in_default-flush.ensures.engine
-    c.in-Ok-turn.ensures.turns.limits c.in_default-flush.ensures.output c.in_default-flush.ensures.messages)
+    c.args.input.now.pending c.turn.new.input.pending w.0 _ _ _ _ _ _ c.in-Ok-turn.turned
+    c.in-Ends.end r t.moves c.in-Ends.is c.in_default-flush.ensures.engine
+    t.limits c.in_default-flush.ensures.output c.in_default-flush.ensures.messages)
 
 pub returns-in-Err-flush-clause-order : goal.returns-in-Err-flush-clause-order
 returns-in-Err-flush-clause-order g c =
+    let w = to_some c.in-Ok.lookahead c.in-Some.lookahead c.pass_plain.new.next c.turns.self c.pass_plain.new.self c.turns.input c.pass_plain.new.input c.in-Some.is c.in-Ok.ensures.passes in
+    let t = c.in-Ok-turn.ensures.turns w.0 w.2 in
     let r = passed c.args.wanted c.args.self.now c.turns.self c.pass_plain.new.self c.args.input.now.pending
-    c.turns.input c.pass_plain.new.input _ _ _ _ c.turns.invariant.runs c.in-Ok.ensures.passes in
+    c.turns.input w.0 _ _ _ _ c.turns.invariant.runs w.1 in
     write_breaks_in_order c.args.wanted c.args.self.now c.pass_plain.new.self c.turn.new.self c.args.input.now.pending
-    c.pass_plain.new.input c.turn.new.input c.in-Ok-turn.turned c.len-earlier.result _ _ _ _ _ _ r
-    c.in-Ok-turn.ensures.turns.moves c.in-Ok-turn.ensures.turns.made
-    (passes_messages c.turns.self c.pass_plain.new.self c.turns.input c.pass_plain.new.input c.in-Ok.ensures.passes
+    w.0 c.turn.new.input c.in-Ok-turn.turned c.len-earlier.result _ _ _ _ _ _ r
+    t.moves t.made
+    (passes_messages c.turns.self c.pass_plain.new.self c.turns.input w.0 w.1
     ∙ c.turns.invariant.quiet)
     (search rules) c.in-Err-flush.ensures.order
 
@@ -243,12 +275,13 @@ returns-in_default-clause-order g c = lack_gives_in_order c.args.wanted c.args.s
 
 pub returns-in_default-turn-clause-order : goal.returns-in_default-turn-clause-order
 returns-in_default-turn-clause-order g c =
+    let w = to_some c.in-Ok.lookahead c.in-Some.lookahead c.pass_plain.new.next c.turns.self c.pass_plain.new.self c.turns.input c.pass_plain.new.input c.in-Some.is c.in-Ok.ensures.passes in
     let r = passed c.args.wanted c.args.self.now c.turns.self c.pass_plain.new.self c.args.input.now.pending
-    c.turns.input c.pass_plain.new.input _ _ _ _ c.turns.invariant.runs c.in-Ok.ensures.passes in
+    c.turns.input w.0 _ _ _ _ c.turns.invariant.runs w.1 in
     lack_gives_in_order c.args.wanted c.args.self.now c.pass_plain.new.self c.turn.new.self c.args.input.now.pending
-    c.pass_plain.new.input c.len-earlier.result _ _ _ _ _ c.give_out-in_default-turn.result
+    w.0 c.len-earlier.result _ _ _ _ _ c.give_out-in_default-turn.result
     r
-    (passes_messages c.turns.self c.pass_plain.new.self c.turns.input c.pass_plain.new.input c.in-Ok.ensures.passes
+    (passes_messages c.turns.self c.pass_plain.new.self c.turns.input w.0 w.1
     ∙ c.turns.invariant.quiet)
     (search rules) c.in_default-turn.ensures.kept c.give_out-in_default-turn.ensures.gives
 

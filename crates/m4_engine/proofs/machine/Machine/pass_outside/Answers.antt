@@ -43,5 +43,5 @@ returns-in_ok-put_text-in-Text-2-clause-passes c =
       passes = inr (inr (k, part, t.all, takes, h.0, refl, c.requires.outside, new));
       within = omega (arith, fits, rest, within);
       end = tt;
-      none = λ u. inl (omega (arith, some));
+      none = λ u. (refl, inl (omega (arith, some)));
     }
