@@ -168,8 +168,11 @@ impl OpenCall {
     /// of the contents is dropped by `renew`.
     #[inline(always)]
     pub fn shed(&mut self, most: usize) {
-        let is_long = self.args.len() > most;
-        if is_long || self.is_large || self.definition.len() > LARGEST_COPIED {
+        let is_large = match &self.definition {
+            Def::Text(text) | Def::Placeholder(text) => text.as_slice().len() > LARGEST_COPIED,
+            Def::Builtin(_) => false,
+        };
+        if self.args.len() > most || self.is_large || is_large {
             self.shed_memory(most);
         }
     }

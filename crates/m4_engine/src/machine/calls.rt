@@ -93,10 +93,26 @@ fn put_more(
     ensures left { OnOk result (effect.new ≡ record effect.old { wrap = None }) }
     ensures kept { OnErr result (HasFront output.old.items output.new.items) }
 {
-    // Hardly any call makes them.
     if !effect.has_more() {
         return Ok(());
     }
+    put_any(effect, messages, output, saved)
+}
+
+/// Appends them, if there are any. Not inlined, since hardly any call makes them.
+#[inline(never)]
+fn put_any(
+    effect: &mut EffectBuffer,
+    messages: &mut Vec<u8>,
+    output: &mut Vec<u8>,
+    saved: &mut Vec<Bytes>,
+) -> Result<(), AllocError>
+    ensures messages { OnOk result (messages.new.items ≡ messages.old.items ++ effect.old.messages) }
+    ensures output { OnOk result (output.new.items ≡ output.old.items ++ effect.old.output) }
+    ensures saved { OnOk result (saved.new.items ≡ with_saved effect.old.wrap saved.old.items) }
+    ensures left { OnOk result (effect.new ≡ record effect.old { wrap = None }) }
+    ensures kept { OnErr result (HasFront output.old.items output.new.items) }
+{
     messages.extend_from_slice(effect.messages())?;
     output.extend_from_slice(effect.output())?;
     if let Some(text) = effect.take_wrap() {
