@@ -22,15 +22,7 @@ use Rattle.m4_eval.proofs.Symbols.{space_below}
 use Rattle.m4_eval.specs.LexerView.{bits_after}
 use Rattle.std.specs.Char.{digit_value, is_digit}
 use Rattle.m4_eval.proofs.Numbers.{small, from_digit_is}
-use Rattle.m4_eval.proofs.Operands.{in_bits, operand_is, stepped}
-
--- a byte, by whether it is white space
-abbrev turn : Place → ℕ → List ℕ → Bool → Option Value
-turn p b x t =
-    elim t [
-      | true ↦ values_from zero p x
-      | false ↦ option_and_then (λ q. values_from q.1 q.0 x) (step_from p.current p.waiting b x)
-    ]
+use Rattle.m4_eval.proofs.Operands.{in_bits, operand_is, stepped, turn}
 
 -- white space does not change the place
 pub spaces_skipped : (p : Place) (x : List ℕ) → values_from zero p (drop (run_length is_space x) x) ≡ values_from zero p x

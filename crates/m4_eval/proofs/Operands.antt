@@ -49,7 +49,8 @@ after_token zero p x = refl
 after_token (suc k) p [] = refl
 after_token (suc k) p (b ∷ x) = after_token k p x
 
-abbrev turn : Place → ℕ → List ℕ → Bool → Option Value
+-- a byte, by whether it is white space
+abbrev pub turn : Place → ℕ → List ℕ → Bool → Option Value
 turn p b x t =
     elim t [
       | true ↦ values_from zero p x

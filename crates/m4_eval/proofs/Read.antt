@@ -23,7 +23,7 @@ use Rattle.m4_eval.specs.ReadExpression.{run_of, number_of, of_length, after_rad
 use Rattle.m4_eval.specs.ReadExpression.{in_radix_from, is_either, after_zero, literal_at, sign_at, or_two, or_either}
 use Rattle.m4_eval.specs.ReadExpression.{operator_at, operated, closed, whole, finished, step, step_before}
 use Rattle.m4_eval.specs.ReadExpression.{step_after, read_from, completed, joined_above, expression_at}
-use Rattle.m4_eval.proofs.Steps.{level_most, level_least, floor, HasNoSign, no_sign, looser}
+use Rattle.m4_eval.proofs.Steps.{level_most, level_least, floor, HasNoSign, no_sign, looser, turn}
 
 -- By cases on a result.
 
@@ -465,13 +465,6 @@ consumed_space r b c e h = record {
 
 consumed_now : (r : Reading) (c : List ℕ) → Holds r c → Consumed r c
 consumed_now r c h = record { base = c; gap = []; holds = h; are_spaces = refl; split = sym (append-nil c) }
-
-abbrev turn : Reading → ℕ → List ℕ → Bool → Option Expression
-turn r b x t =
-    elim t [
-      | true ↦ read_from zero r x
-      | false ↦ option_and_then (λ p. read_from p.1 p.0 x) (step r b x)
-    ]
 
 pub read_spelled : (x : List ℕ) (skip : ℕ) (r : Reading) (c : List ℕ) (e : Expression) → Consumed r (c ++ take skip x)
     → read_from skip r x ≡ Some e → SpellsExpression e (c ++ x)

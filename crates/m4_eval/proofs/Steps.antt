@@ -20,7 +20,7 @@ skipped [] r (b ∷ rest) = refl
 skipped (b ∷ front) r rest = skipped front r rest
 
 -- a byte, by whether it is white space
-abbrev turn : Reading → ℕ → List ℕ → Bool → Option Expression
+abbrev pub turn : Reading → ℕ → List ℕ → Bool → Option Expression
 turn r b x t =
     elim t [
       | true ↦ read_from zero r x

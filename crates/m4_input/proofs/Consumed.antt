@@ -139,7 +139,7 @@ string_bytes q may_follow y h (Some n) = found_bytes _ _ (omega arith)
 letter_named : (b : ℕ) → is_letter b ≡ true → is_name_byte b ≡ true
 letter_named b e = rw e refl
 
-run_starts : (b : ℕ) (x : List ℕ) → is_letter b ≡ true → 0 < run_length is_name_byte (b ∷ x)
+pub run_starts : (b : ℕ) (x : List ℕ) → is_letter b ≡ true → 0 < run_length is_name_byte (b ∷ x)
 run_starts b x e = rw (letter_named b e, run_length) (omega arith)
 
 name_bytes : (b : Bool) (n : ℕ) (x : List ℕ) → 0 < n → HasBytes (name_unless b n x)

@@ -8,6 +8,7 @@ use Rattle.m4_input.specs.declared.front.Kind.TheVariants.{NameHere}
 use Rattle.m4_input.specs.Ascii.{is_letter, is_digit, is_name_byte}
 use Rattle.m4_input.specs.Token.{run_length, kind_of}
 use Rattle.m4_input.proofs.Cases.{kind_by}
+use Rattle.m4_input.proofs.Consumed.{run_starts}
 
 letter_of : (v w l x y : Bool) → kind_by v w l x y ≡ NameHere → l ≡ true
 letter_of true w l x y e = cc
@@ -17,16 +18,9 @@ letter_of false false false true y e = cc
 letter_of false false false false true e = cc
 letter_of false false false false false e = cc
 
-letter_length : (b : ℕ) (y : List ℕ) → is_letter b ≡ true → 0 < run_length is_name_byte (b ∷ y)
-letter_length b y h = by_test (is_name_byte b) (ap (λ v. v || is_digit b) h)
-  where
-    by_test : (v : Bool) → v ≡ true → 0 < elim v [ true ↦ suc (run_length is_name_byte y) | false ↦ 0 ]
-    by_test true e = omega arith
-    by_test false e = cc
-
 -- a name has a byte
 pub name_begins : (q c : Delimiters) (m : Bool) (b : ℕ) (x : List ℕ) (k : Kind) → x ≡ b ∷ drop 1 x
     → k ≡ kind_of q c m b (drop 1 x) → k ≡ NameHere → 0 < run_length is_name_byte x
 name_begins q c m b x k e g h =
     subst (λ (z : List ℕ). 0 < run_length is_name_byte z) (sym e)
-    (letter_length b (drop 1 x) (letter_of _ _ _ _ _ (sym g ∙ h)))
+    (run_starts b (drop 1 x) (letter_of _ _ _ _ _ (sym g ∙ h)))

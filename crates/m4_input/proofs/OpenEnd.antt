@@ -4,7 +4,7 @@ use Rattle.std.proofs.Common.{false, ◌&&◌, ◌||◌, eqb, eq-eqb, List, [], 
 use Rattle.std.proofs.Common.{refl, sym, ap, ◌∙◌, subst, arith, length-append, length-drop}
 use Rattle.std.specs.Prelude.{nat_lt}
 use Rattle.std.proofs.lemmas.Bool.Decides.{nat_tests}
-use Rattle.std.proofs.lemmas.Bool.{eqb-true}
+use Rattle.std.proofs.lemmas.Bool.{eqb-true, and_parts, and_from}
 use Rattle.std.proofs.lemmas.List.{take-append-le, drop-append-le}
 use Rattle.m4_state.specs.declared.delimiters.Delimiters.{Delimiters}
 use Rattle.m4_input.specs.declared.token.Token.{Token}
@@ -22,14 +22,8 @@ use Rattle.m4_input.specs.Token.{begins, is_cut, is_enabled, starts_with, may_st
 use Rattle.m4_input.specs.Token.{mark_at, level, name_at, string_at}
 use Rattle.m4_input.specs.Token.{kind_of, scan_kind, scan}
 use Rattle.m4_input.specs.Paren.{paren_in}
+use Rattle.m4_input.proofs.Scans.{begins_length}
 use Rattle.m4_input.proofs.Cases.{mark_by, name_unless, kind_by, answer_by, comment_found, string_found}
-
-and_true : (a b : Bool) → (a && b) ≡ true → (a ≡ true) × (b ≡ true)
-and_true true b e = (refl, e)
-and_true false b e = cc
-
-both_true : (a b : Bool) → a ≡ true → b ≡ true → (a && b) ≡ true
-both_true a b e f = rw (e, f) refl
 
 eqb_sym : (a b : ℕ) → eqb a b ≡ eqb b a
 eqb_sym a b = grind (arith, nat_tests)
@@ -37,12 +31,12 @@ eqb_sym a b = grind (arith, nat_tests)
 pub begins_more : (p x z : List ℕ) → begins p x ≡ true → begins p (x ++ z) ≡ true
 begins_more [] x z e = refl
 begins_more (b ∷ p) [] z e = cc
-begins_more (b ∷ p) (c ∷ x) z e = let h = and_true (eqb b c) (begins p x) e in both_true _ _ h.0 (begins_more p x z h.1)
+begins_more (b ∷ p) (c ∷ x) z e = let h = and_parts (eqb b c) (begins p x) e in and_from _ _ h.0 (begins_more p x z h.1)
 
 begins_front : (x z p : List ℕ) → begins (x ++ z) p ≡ true → begins x p ≡ true
 begins_front [] z p e = refl
 begins_front (b ∷ x) z [] e = cc
-begins_front (b ∷ x) z (c ∷ p) e = let h = and_true (eqb b c) (begins (x ++ z) p) e in both_true _ _ h.0 (begins_front x z p h.1)
+begins_front (b ∷ x) z (c ∷ p) e = let h = and_parts (eqb b c) (begins (x ++ z) p) e in and_from _ _ h.0 (begins_front x z p h.1)
 
 lt_true : (a b : ℕ) → a < b → nat_lt a b ≡ true
 lt_true a b h = grind (arith, nat_tests)
@@ -52,10 +46,10 @@ true_lt a b h = grind (arith, nat_tests)
 
 cut_less : (x z p : List ℕ) → is_cut (x ++ z) p ≡ true → is_cut x p ≡ true
 cut_less x z p e =
-    let h = and_true (begins (x ++ z) p) _ e in
+    let h = and_parts (begins (x ++ z) p) _ e in
     let l : length (x ++ z) < length p = true_lt _ _ h.1 in
     let a : length (x ++ z) ≡ length x + length z = length-append x z in
-    both_true _ _ (begins_front x z p h.0) (lt_true _ _ (omega arith))
+    and_from _ _ (begins_front x z p h.0) (lt_true _ _ (omega arith))
 
 false_from : (b : Bool) → (b ≡ true → ⊥) → b ≡ false
 false_from true f = absurd (f refl)
@@ -69,23 +63,18 @@ not_cut_more x z p e = false_from _ (λ h. not_both (cut_less x z p h) e)
 
 pub begins_none : (p x z : List ℕ) → begins p x ≡ false → is_cut x p ≡ false → begins p (x ++ z) ≡ false
 begins_none [] x z e f = cc
-begins_none (b ∷ p) [] z e f = absurd (not_both (both_true (begins [] (b ∷ p)) _ refl (lt_true 0 (length (b ∷ p)) (omega arith))) f)
+begins_none (b ∷ p) [] z e f = absurd (not_both (and_from (begins [] (b ∷ p)) _ refl (lt_true 0 (length (b ∷ p)) (omega arith))) f)
 begins_none (b ∷ p) (c ∷ x) z e f =
     (elim (eqb b c) as (λ v. eqb b c ≡ v → (v && begins p x) ≡ false → (v && begins p (x ++ z)) ≡ false) [
       | true ↦ λ g e'. begins_none p x z e' (false_from _ (λ h.
-          let i = and_true (begins x p) _ h in
+          let i = and_parts (begins x p) _ h in
           let l : length x < length p = true_lt _ _ i.1 in
-          not_both (both_true _ _ (both_true _ _ (eqb_sym c b ∙ g) i.0) (lt_true (length (c ∷ x)) (length (b ∷ p)) (omega arith))) f))
+          not_both (and_from _ _ (and_from _ _ (eqb_sym c b ∙ g) i.0) (lt_true (length (c ∷ x)) (length (b ∷ p)) (omega arith))) f))
       | false ↦ λ g e'. refl
     ]) refl e
 
 pub long_not_cut : (x p : List ℕ) → length p ≤ length x → is_cut x p ≡ false
-long_not_cut x p h = false_from _ (λ e. let l : length x < length p = true_lt _ _ ((and_true (begins x p) _ e).1) in omega arith)
-
-begins_long : (p x : List ℕ) → begins p x ≡ true → length p ≤ length x
-begins_long [] x e = omega arith
-begins_long (b ∷ p) [] e = cc
-begins_long (b ∷ p) (c ∷ x) e = let l : length p ≤ length x = begins_long p x ((and_true (eqb b c) _ e).1) in omega arith
+long_not_cut x p h = false_from _ (λ e. let l : length x < length p = true_lt _ _ ((and_parts (begins x p) _ e).1) in omega arith)
 
 pub run_fits : (f : ℕ → Bool) (x : List ℕ) → run_length f x ≤ length x
 run_fits f [] = omega arith
@@ -119,7 +108,7 @@ before_fits e [] n h = cc
 before_fits e (b ∷ x) n h =
     (elim (begins e (b ∷ x)) as (λ v. begins e (b ∷ x) ≡ v
     → (elim v [ true ↦ Some 0 | false ↦ one_longer (before e x) ]) ≡ Some n → n + length e ≤ length (b ∷ x)) [
-      | true ↦ λ g i. let l : length e ≤ length (b ∷ x) = begins_long e (b ∷ x) g in let m : 0 ≡ n = cc in omega arith
+      | true ↦ λ g i. let l : length e ≤ length (b ∷ x) = begins_length e (b ∷ x) g in let m : 0 ≡ n = cc in omega arith
       | false ↦ λ g i. let k = one_more_is _ n i in let l : k.0 + length e ≤ length x = before_fits e x k.0 k.1 in let m : n ≡ suc k.0 = k.2 in omega arith
     ]) refl h
 
@@ -176,7 +165,7 @@ down_long : (q : Delimiters) (p : Bool) (y : List ℕ) → mark_at q p y ≡ End
 down_long q p y e = go (begins q.end y) (p && (is_cut y q.end || is_cut y q.begin)) (begins q.begin y) refl e
   where
     go : (u v w : Bool) → begins q.end y ≡ u → mark_by u v w ≡ EndQuote → length q.end ≤ length y
-    go true v w f g = begins_long q.end y f
+    go true v w f g = begins_length q.end y f
     go false true w f g = cc
     go false false true f g = cc
     go false false false f g = cc
@@ -273,7 +262,7 @@ front_stays q c p b y z = go (starts_with c (b ∷ y)) (may_start c true (b ∷ 
   where
     starts : (d : Delimiters) → (starts_with d (b ∷ y) ≡ true → starts_with d (b ∷ (y ++ z)) ≡ true)
         × (starts_with d (b ∷ y) ≡ false → may_start d true (b ∷ y) ≡ false → starts_with d (b ∷ (y ++ z)) ≡ false)
-    starts d = ((λ e. let h = and_true (is_enabled d) _ e in both_true _ _ h.0 (begins_more d.begin (b ∷ y) z h.1)), off (is_enabled d))
+    starts d = ((λ e. let h = and_parts (is_enabled d) _ e in and_from _ _ h.0 (begins_more d.begin (b ∷ y) z h.1)), off (is_enabled d))
       where
         off : (v : Bool) → (v && begins d.begin (b ∷ y)) ≡ false → (v && is_cut (b ∷ y) d.begin) ≡ false → (v && begins d.begin (b ∷ (y ++ z))) ≡ false
         off true e f = begins_none d.begin (b ∷ y) z e f
@@ -336,8 +325,8 @@ scan_stays q c p [] z = inl refl
 scan_stays q c p (b ∷ y) z =
     let long = front_long q c b y (starts_with c (b ∷ y)) (may_start c true (b ∷ y)) (is_letter b)
     (starts_with q (b ∷ y)) (may_start q true (b ∷ y))
-    (λ e. begins_long c.begin (b ∷ y) ((and_true (is_enabled c) _ e).1))
-    (λ e. begins_long q.begin (b ∷ y) ((and_true (is_enabled q) _ e).1)) in
+    (λ e. begins_length c.begin (b ∷ y) ((and_parts (is_enabled c) _ e).1))
+    (λ e. begins_length q.begin (b ∷ y) ((and_parts (is_enabled q) _ e).1)) in
     ⊎_elim (λ e. inl (ap (λ f. scan_kind f q c true b y) e))
     (λ e. subst (λ f. Stays (scan q c true (b ∷ y)) (scan_kind f q c p b (y ++ z))) (sym e) (scan_front_stays (kind_of q c true b y) q c p b y z long.0 long.1))
     (front_stays q c p b y z)
@@ -386,8 +375,8 @@ scan_in q c [] = tt
 scan_in q c (b ∷ y) =
     let long = front_long q c b y (starts_with c (b ∷ y)) (may_start c true (b ∷ y)) (is_letter b)
     (starts_with q (b ∷ y)) (may_start q true (b ∷ y))
-    (λ e. begins_long c.begin (b ∷ y) ((and_true (is_enabled c) _ e).1))
-    (λ e. begins_long q.begin (b ∷ y) ((and_true (is_enabled q) _ e).1)) in
+    (λ e. begins_length c.begin (b ∷ y) ((and_parts (is_enabled c) _ e).1))
+    (λ e. begins_length q.begin (b ∷ y) ((and_parts (is_enabled q) _ e).1)) in
     scan_front_in (kind_of q c true b y) q c b y long.0 long.1
 
 pub scan_fits : (q c : Delimiters) (x : List ℕ) (t : Token) (n : ℕ) → scan q c true x ≡ Found t n → n ≤ length x
@@ -395,7 +384,7 @@ unfolding FitsIn
 scan_fits q c x t n e = subst (FitsIn (length x)) e (scan_in q c x)
 
 starts_stays : (d : Delimiters) (x z : List ℕ) → starts_with d x ≡ true → starts_with d (x ++ z) ≡ true
-starts_stays d x z e = let h = and_true (is_enabled d) _ e in both_true _ _ h.0 (begins_more d.begin x z h.1)
+starts_stays d x z e = let h = and_parts (is_enabled d) _ e in and_from _ _ h.0 (begins_more d.begin x z h.1)
 
 no_start_stays : (v : Bool) (d x z : List ℕ) → (v && begins d x) ≡ false → (v && is_cut x d) ≡ false → (v && begins d (x ++ z)) ≡ false
 no_start_stays true d x z e f = begins_none d x z e f

@@ -25,7 +25,7 @@ use std::alloc::AllocError;
 const LONG: usize = 4;
 
 /// How many arguments these keep at most, each. No argument that is kept is large.
-const LONGEST: usize = 4096;
+const LONG_LIST: usize = 4096;
 
 /// How many arguments any other call keeps at most.
 const USUAL: usize = 8;
@@ -183,7 +183,7 @@ impl Machine {
             call.place(),
             &mut self.state,
         )?;
-        call.shed(if self.depth < LONG { LONGEST } else { USUAL });
+        call.shed(if self.depth < LONG { LONG_LIST } else { USUAL });
         put_more(
             &mut self.effect,
             &mut self.messages,
