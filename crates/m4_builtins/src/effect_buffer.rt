@@ -1,6 +1,9 @@
 //! An effect that calls fill in turn, with the memory of the ones before.
 
-ghost use Rattle.std.specs.Prelude.{◌≡◌, ◌++◌, [], OnOk, IfSome, Some, None, true, false, option_copied};
+ghost use Rattle.std.specs.Prelude.{◌≡◌, ◌==◌, ◌≤◌, ◌++◌, [], OnOk, IfSome, Some, None, true, false, option_copied};
+ghost use Rattle.std.specs.Prelude.{length, not};
+ghost use Rattle.m4_input.specs.Ascii.{dollar};
+ghost use Rattle.m4_input.specs.Token.{run_length};
 ghost use Rattle.m4_builtins.specs.QuotesView.{pair_of};
 
 use crate::args::Arg;
@@ -255,8 +258,22 @@ impl EffectBuffer {
         Ok(())
     }
 
-    /// Inserts a text before the input, shared if others may share it.
+    /// Inserts a text before the input, shared if others may share it. So few bytes that no slice has them are copied
+    /// at once.
+    #[inline(always)]
     pub(crate) fn give_shared(&mut self, text: &Bytes) -> Result<(), AllocError>
+        ensures { OnOk result (self.new ≡ record self.old { push = Some (pushes.Text text.now) }) }
+    {
+        let bytes = text.as_slice();
+        if bytes.len() <= SHORT {
+            return self.give_copy(bytes);
+        }
+        self.give_slice(text)
+    }
+
+    /// Inserts a text before the input, shared if it is a slice that others may share.
+    #[inline(never)]
+    fn give_slice(&mut self, text: &Bytes) -> Result<(), AllocError>
         ensures { OnOk result (self.new ≡ record self.old { push = Some (pushes.Text text.now) }) }
     {
         match text.shared()? {
@@ -271,6 +288,7 @@ impl EffectBuffer {
 
     /// Inserts a text with a call's name and arguments substituted, by these quotes. It is the text itself, shared, if
     /// it has no dollar.
+    #[inline(always)]
     pub(crate) fn give_expansion(
         &mut self,
         text: &Bytes,
@@ -287,10 +305,28 @@ impl EffectBuffer {
         if plain == bytes.len() {
             return Ok(self.give_shared(text)?);
         }
+        self.give_substituted(bytes, plain, name, list, quotes)
+    }
+
+    /// Inserts a text with the same substituted. It has so many bytes before its first dollar.
+    #[inline(never)]
+    fn give_substituted(
+        &mut self,
+        text: &[u8],
+        plain: usize,
+        name: &[u8],
+        list: &[Arg],
+        quotes: (&[u8], &[u8]),
+    ) -> Result<(), BuiltinFault>
+        requires count { plain ≡ run_length (λ b. not (b == dollar)) text.now }
+        requires within { plain ≤ length text.now }
+        ensures { OnOk result (self.new ≡ record self.old
+            { push = Some (pushes.Text (subst text.now name.now list.now (pair_of quotes.entry))) }) }
+    {
         self.buffer.clear();
         // The result mostly has about as many bytes.
-        self.buffer.reserve(bytes.len())?;
-        substitute_onto(&mut self.buffer, bytes, plain, name, list, quotes)?;
+        self.buffer.reserve(text.len())?;
+        substitute_onto(&mut self.buffer, text, plain, name, list, quotes)?;
         self.is_made = true;
         Ok(())
     }
