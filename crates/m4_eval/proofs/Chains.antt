@@ -13,7 +13,7 @@ use Rattle.m4_eval.specs.declared.value.Value.{Value}
 use Rattle.m4_eval.specs.declared.value.Value.TheVariants.{Number}
 use Rattle.m4_eval.specs.ReadExpression.{literal_at, sign_at, operator_at, is_alphanumeric, run_of, is_either}
 use Rattle.m4_eval.specs.ReadExpression.{in_radix_from}
-use Rattle.m4_eval.specs.EvaluateSteps.{Place, with_signs, step_from, after_step, alone, closed_place, operated_place}
+use Rattle.m4_eval.specs.EvaluateSteps.{Place, with_signs, after_step, alone, closed_place, operated_place}
 use Rattle.m4_eval.specs.EvaluateSteps.{joined_while, values_from}
 use Rattle.m4_eval.specs.Expression.{level_of}
 use Rattle.m4_eval.specs.GrammarView.{place}

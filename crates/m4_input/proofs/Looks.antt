@@ -1,11 +1,11 @@
 -- Looks: a token that begins with a letter is a name of at least one byte.
 use Rattle.std.proofs.Common.{◌≡◌, ◌<◌, ℕ, Bool, true, false, List, ◌∷◌, drop, sym, ◌∙◌, subst}
-use Rattle.std.proofs.Common.{arith, ap, refl}
-use Rattle.std.specs.Prelude.{suc, ◌||◌}
+use Rattle.std.proofs.Common.{refl}
+use Rattle.std.specs.Prelude.{◌||◌}
 use Rattle.m4_state.specs.declared.delimiters.Delimiters.{Delimiters}
 use Rattle.m4_input.specs.declared.front.Kind.{Kind}
 use Rattle.m4_input.specs.declared.front.Kind.TheVariants.{NameHere}
-use Rattle.m4_input.specs.Ascii.{is_letter, is_digit, is_name_byte}
+use Rattle.m4_input.specs.Ascii.{is_name_byte}
 use Rattle.m4_input.specs.Token.{run_length, kind_of}
 use Rattle.m4_input.proofs.Cases.{kind_by}
 use Rattle.m4_input.proofs.Consumed.{run_starts}
