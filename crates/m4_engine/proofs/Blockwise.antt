@@ -479,26 +479,14 @@ pub ends_by_cause : (e0 e e' : Engine) (p0 : Pending) (i j : Held) (before after
     → Taking e0 p0 before after out0 reported0 w e i out reported
     → HandGives w e e' i j (writers out out' reported reported') (Err cause)
     → Expands e0 e' p0 before after (writers out0 out' reported0 reported') cause
-ends_by_cause e0 e e' p0 i j before after out0 reported0 out reported out' reported' w causes.Done d t h =
-    ended_all e0 e e' p0 i before after out0 reported0 out reported out' reported' w causes.Done d t h
-ends_by_cause e0 e e' p0 i j before after out0 reported0 out reported out' reported' w (causes.Exited n) d t h =
-    ended_all e0 e e' p0 i before after out0 reported0 out reported out' reported' w (causes.Exited n) d t h
-ends_by_cause e0 e e' p0 i j before after out0 reported0 out reported out' reported' w causes.EndInString d t h =
-    ended_all e0 e e' p0 i before after out0 reported0 out reported out' reported' w causes.EndInString d t h
-ends_by_cause e0 e e' p0 i j before after out0 reported0 out reported out' reported' w causes.EndInComment d t h =
-    ended_all e0 e e' p0 i before after out0 reported0 out reported out' reported' w causes.EndInComment d t h
-ends_by_cause e0 e e' p0 i j before after out0 reported0 out reported out' reported' w causes.EndInArguments d t h =
-    ended_all e0 e e' p0 i before after out0 reported0 out reported out' reported' w causes.EndInArguments d t h
-ends_by_cause e0 e e' p0 i j before after out0 reported0 out reported out' reported' w causes.ExpansionLimit d t h =
-    ended_all e0 e e' p0 i before after out0 reported0 out reported out' reported' w causes.ExpansionLimit d t h
-ends_by_cause e0 e e' p0 i j before after out0 reported0 out reported out' reported' w causes.NestingLimit d t h =
-    ended_all e0 e e' p0 i before after out0 reported0 out reported out' reported' w causes.NestingLimit d t h
 ends_by_cause e0 e e' p0 i j before after out0 reported0 out reported out' reported' w (causes.Frozen f) d t h = absurd h
 ends_by_cause e0 e e' p0 i j before after out0 reported0 out reported out' reported' w causes.Read d t h = absurd h
 ends_by_cause e0 e e' p0 i j before after out0 reported0 out reported out' reported' w causes.Write d t h =
     broke_all e0 e p0 i before after out0 reported0 out reported out' reported' w d t h
 ends_by_cause e0 e e' p0 i j before after out0 reported0 out reported out' reported' w causes.OutOfMemory d t h =
     broke_all e0 e p0 i before after out0 reported0 out reported out' reported' w d t h
+ends_by_cause e0 e e' p0 i j before after out0 reported0 out reported out' reported' w cause d t h =
+    ended_all e0 e e' p0 i before after out0 reported0 out reported out' reported' w cause d t h
 
 pub ends_so : (e0 e e' : Engine) (p0 : Pending) (i j : Held) (before after : Option Script)
     (out0 reported0 out reported out' reported' : Option (List ℕ)) (w : Wanted) (cause : Cause) (r : Result Wanted Cause)

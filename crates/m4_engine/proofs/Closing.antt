@@ -20,15 +20,7 @@ freeze_spares old w (Ok done) h = tt
 freeze_spares old w (Err stops.Finished) h = h
 freeze_spares old w (Err (stops.Ended causes.Done)) h = tt
 freeze_spares old w (Err (stops.Ended causes.Write)) h = tt
-freeze_spares old w (Err (stops.Ended (causes.Exited n))) h = h
-freeze_spares old w (Err (stops.Ended causes.EndInString)) h = h
-freeze_spares old w (Err (stops.Ended causes.EndInComment)) h = h
-freeze_spares old w (Err (stops.Ended causes.EndInArguments)) h = h
-freeze_spares old w (Err (stops.Ended causes.ExpansionLimit)) h = h
-freeze_spares old w (Err (stops.Ended causes.NestingLimit)) h = h
-freeze_spares old w (Err (stops.Ended (causes.Frozen f))) h = h
-freeze_spares old w (Err (stops.Ended causes.Read)) h = h
-freeze_spares old w (Err (stops.Ended causes.OutOfMemory)) h = h
+freeze_spares old w (Err (stops.Ended cause)) h = h
 
 -- the same after one that did not
 finish_spares : (w : Three (Option (List ℕ))) (r : Result Unit Stop) → IsSpared w → SparesBy r w
@@ -41,16 +33,7 @@ finish_fails : (f : Failures) (k : ℕ) (w : Three (Option (List ℕ))) (r : Res
 finish_fails f k w (Ok done) s h = (h, refl)
 finish_fails f k w (Err stops.Finished) s h = (h, refl)
 finish_fails f k w (Err (stops.Ended causes.Write)) s h = inl (h, refl, s)
-finish_fails f k w (Err (stops.Ended causes.Done)) s h = (h, refl)
-finish_fails f k w (Err (stops.Ended (causes.Exited n))) s h = (h, refl)
-finish_fails f k w (Err (stops.Ended causes.EndInString)) s h = (h, refl)
-finish_fails f k w (Err (stops.Ended causes.EndInComment)) s h = (h, refl)
-finish_fails f k w (Err (stops.Ended causes.EndInArguments)) s h = (h, refl)
-finish_fails f k w (Err (stops.Ended causes.ExpansionLimit)) s h = (h, refl)
-finish_fails f k w (Err (stops.Ended causes.NestingLimit)) s h = (h, refl)
-finish_fails f k w (Err (stops.Ended (causes.Frozen x))) s h = (h, refl)
-finish_fails f k w (Err (stops.Ended causes.Read)) s h = (h, refl)
-finish_fails f k w (Err (stops.Ended causes.OutOfMemory)) s h = (h, refl)
+finish_fails f k w (Err (stops.Ended cause)) s h = (h, refl)
 
 module _ {O M Z : Type 0} (co : O → Option (List ℕ)) (cm : M → Option (List ℕ)) (cz : Z → Option (List ℕ)) (fo : O → ℕ) (fm : M → ℕ) (fz : Z → ℕ) where
   -- what the end of a run writes, and what it leaves of its session and its writers

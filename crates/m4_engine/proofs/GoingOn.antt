@@ -117,13 +117,8 @@ module _ (o m : List ℕ) (p whole : Progress) (t : Within o m p whole) (s0 s s'
   step_stops (stops.Ended causes.Write) h = broke causes.Write h
   step_stops (stops.Ended causes.OutOfMemory) h = broke causes.OutOfMemory h
   step_stops (stops.Ended causes.Done) h = h
-  step_stops (stops.Ended (causes.Exited n)) h = (ended (causes.Exited n) h.0 h.1, h.1)
-  step_stops (stops.Ended causes.EndInString) h = (ended causes.EndInString h.0 h.1, h.1)
-  step_stops (stops.Ended causes.EndInComment) h = (ended causes.EndInComment h.0 h.1, h.1)
-  step_stops (stops.Ended causes.EndInArguments) h = (ended causes.EndInArguments h.0 h.1, h.1)
-  step_stops (stops.Ended causes.ExpansionLimit) h = (ended causes.ExpansionLimit h.0 h.1, h.1)
-  step_stops (stops.Ended causes.NestingLimit) h = (ended causes.NestingLimit h.0 h.1, h.1)
   step_stops (stops.Ended (causes.Frozen x)) h = h
+  step_stops (stops.Ended cause) h = (ended cause h.0 h.1, h.1)
 
 -- all was made
 pub all_made : (o m : List ℕ) (s0 s : SessionState) (w : Contents) (whole : Progress) → IsOpen s0 → IsOpen s

@@ -101,16 +101,7 @@ finish_begins freezes saved limits r p e =
 -- an end other than that of the input ends the run
 over_by_cause : (c : Cause) → Ends c ≢ Ends causes.Done → over_by c ≡ Some (Ends c)
 over_by_cause causes.Done n = absurd (n refl)
-over_by_cause (causes.Exited code) n = refl
-over_by_cause causes.EndInString n = refl
-over_by_cause causes.EndInComment n = refl
-over_by_cause causes.EndInArguments n = refl
-over_by_cause causes.ExpansionLimit n = refl
-over_by_cause causes.NestingLimit n = refl
-over_by_cause (causes.Frozen f) n = refl
-over_by_cause causes.Read n = refl
-over_by_cause causes.Write n = refl
-over_by_cause causes.OutOfMemory n = refl
+over_by_cause cause n = refl
 
 over_unless_done : (h : EndReason) → h ≢ Ends causes.Done → over_of h ≡ Some h
 over_unless_done (Ends c) n = over_by_cause c n

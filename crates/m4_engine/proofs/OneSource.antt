@@ -37,12 +37,7 @@ file_left name before after old new w (Err (stops.Ended (causes.Frozen fault))) 
 file_left name before after old new w (Err (stops.Ended causes.Read)) l h = ((h.interrupted).over, tt)
 file_left name before after old new w (Err (stops.Ended causes.Write)) l h = ((h.1).over, tt)
 file_left name before after old new w (Err (stops.Ended causes.OutOfMemory)) l h = ((h.1).over, tt)
-file_left name before after old new w (Err (stops.Ended (causes.Exited n))) l h = (h.1, tt)
-file_left name before after old new w (Err (stops.Ended causes.EndInString)) l h = (h.1, tt)
-file_left name before after old new w (Err (stops.Ended causes.EndInComment)) l h = (h.1, tt)
-file_left name before after old new w (Err (stops.Ended causes.EndInArguments)) l h = (h.1, tt)
-file_left name before after old new w (Err (stops.Ended causes.ExpansionLimit)) l h = (h.1, tt)
-file_left name before after old new w (Err (stops.Ended causes.NestingLimit)) l h = (h.1, tt)
+file_left name before after old new w (Err (stops.Ended cause)) l h = (h.1, tt)
 
 -- nothing but bytes was taken of its reader
 file_taken : (name : List ℕ) (before after : Option Script) (old new : SessionState) (w : Contents)
@@ -52,14 +47,7 @@ file_taken name before after old new w (Err stops.Finished) l h = absurd ((h.0).
 file_taken name before after old new w (Err (stops.Ended causes.Done)) l h = absurd h
 file_taken name before after old new w (Err (stops.Ended (causes.Frozen fault))) l h = absurd h
 file_taken name before after old new w (Err (stops.Ended causes.Read)) l h = (h.x, h.given)
-file_taken name before after old new w (Err (stops.Ended causes.Write)) l h = ((h.0).x, (h.0).given)
-file_taken name before after old new w (Err (stops.Ended causes.OutOfMemory)) l h = ((h.0).x, (h.0).given)
-file_taken name before after old new w (Err (stops.Ended (causes.Exited n))) l h = ((h.0).x, (h.0).given)
-file_taken name before after old new w (Err (stops.Ended causes.EndInString)) l h = ((h.0).x, (h.0).given)
-file_taken name before after old new w (Err (stops.Ended causes.EndInComment)) l h = ((h.0).x, (h.0).given)
-file_taken name before after old new w (Err (stops.Ended causes.EndInArguments)) l h = ((h.0).x, (h.0).given)
-file_taken name before after old new w (Err (stops.Ended causes.ExpansionLimit)) l h = ((h.0).x, (h.0).given)
-file_taken name before after old new w (Err (stops.Ended causes.NestingLimit)) l h = ((h.0).x, (h.0).given)
+file_taken name before after old new w (Err (stops.Ended cause)) l h = ((h.0).x, (h.0).given)
 
 -- a source that wasn't opened
 missing_left : (name : List ℕ) (old new : SessionState) (a b : Option (List ℕ)) (r : Result Unit Stop) → IsOpen old
@@ -67,32 +55,14 @@ missing_left : (name : List ℕ) (old new : SessionState) (a b : Option (List �
 missing_left name old new a b (Ok done) l h = ((h.1).over, h.1)
 missing_left name old new a b (Err stops.Finished) l h = absurd (h.0 l)
 missing_left name old new a b (Err (stops.Ended causes.Write)) l h = ((h.0).over, tt)
-missing_left name old new a b (Err (stops.Ended causes.Done)) l h = absurd h
-missing_left name old new a b (Err (stops.Ended (causes.Frozen fault))) l h = absurd h
-missing_left name old new a b (Err (stops.Ended causes.Read)) l h = absurd h
-missing_left name old new a b (Err (stops.Ended causes.OutOfMemory)) l h = absurd h
-missing_left name old new a b (Err (stops.Ended (causes.Exited n))) l h = absurd h
-missing_left name old new a b (Err (stops.Ended causes.EndInString)) l h = absurd h
-missing_left name old new a b (Err (stops.Ended causes.EndInComment)) l h = absurd h
-missing_left name old new a b (Err (stops.Ended causes.EndInArguments)) l h = absurd h
-missing_left name old new a b (Err (stops.Ended causes.ExpansionLimit)) l h = absurd h
-missing_left name old new a b (Err (stops.Ended causes.NestingLimit)) l h = absurd h
+missing_left name old new a b (Err (stops.Ended cause)) l h = absurd h
 
 missing_writes : (name : List ℕ) (old new : SessionState) (a b : Option (List ℕ)) (out k k' : ℕ) (r : Result Unit Stop)
     → MissingGives name old new a b r → MessageWriteFails r k k' → WriteFails r (writers out out k k')
 missing_writes name old new a b out k k' (Ok done) h f = (refl, f)
 missing_writes name old new a b out k k' (Err stops.Finished) h f = (refl, f)
 missing_writes name old new a b out k k' (Err (stops.Ended causes.Write)) h f = inr (refl, f)
-missing_writes name old new a b out k k' (Err (stops.Ended causes.Done)) h f = absurd h
-missing_writes name old new a b out k k' (Err (stops.Ended (causes.Frozen fault))) h f = absurd h
-missing_writes name old new a b out k k' (Err (stops.Ended causes.Read)) h f = absurd h
-missing_writes name old new a b out k k' (Err (stops.Ended causes.OutOfMemory)) h f = absurd h
-missing_writes name old new a b out k k' (Err (stops.Ended (causes.Exited n))) h f = absurd h
-missing_writes name old new a b out k k' (Err (stops.Ended causes.EndInString)) h f = absurd h
-missing_writes name old new a b out k k' (Err (stops.Ended causes.EndInComment)) h f = absurd h
-missing_writes name old new a b out k k' (Err (stops.Ended causes.EndInArguments)) h f = absurd h
-missing_writes name old new a b out k k' (Err (stops.Ended causes.ExpansionLimit)) h f = absurd h
-missing_writes name old new a b out k k' (Err (stops.Ended causes.NestingLimit)) h f = absurd h
+missing_writes name old new a b out k k' (Err (stops.Ended cause)) h f = absurd h
 
 missing_sound : {R : Type 0} (script : R → Option Script) (failures : R → ℕ) (name : List ℕ) (old new : SessionState)
     (a b : Option (List ℕ)) (r : Result Unit Stop) → MissingGives name old new a b r

@@ -62,15 +62,7 @@ told_answer : (e : Engine) (p : Pending) (before after : Option Script) (w : Con
     → (StepBreaks e p before after w → P) → StepBreaksBy e p before after w cause → BreaksBy (answer_by cause) P
 told_answer e p before after w P causes.Write f h = f h
 told_answer e p before after w P causes.OutOfMemory f h = f h
-told_answer e p before after w P causes.Done f h = tt
-told_answer e p before after w P causes.Read f h = tt
-told_answer e p before after w P (causes.Exited n) f h = tt
-told_answer e p before after w P (causes.Frozen x) f h = tt
-told_answer e p before after w P causes.EndInString f h = tt
-told_answer e p before after w P causes.EndInComment f h = tt
-told_answer e p before after w P causes.EndInArguments f h = tt
-told_answer e p before after w P causes.ExpansionLimit f h = tt
-told_answer e p before after w P causes.NestingLimit f h = tt
+told_answer e p before after w P cause f h = tt
 
 -- ---- a call in which nothing was written
 
@@ -264,17 +256,7 @@ missing_told : (old new : SessionState) (name : List ℕ) (w : Contents) (r : Re
     → BreaksBy r (Breaks (IsStepOf old.limits (Unopened name)) (progress_of old) w)
 missing_told old new name w (Err (stops.Ended causes.Write)) l e h = missing_breaks old new name w l e h.1
 missing_told old new name w (Err (stops.Ended causes.OutOfMemory)) l e h = absurd h
-missing_told old new name w (Ok done) l e h = tt
-missing_told old new name w (Err stops.Finished) l e h = tt
-missing_told old new name w (Err (stops.Ended causes.Done)) l e h = tt
-missing_told old new name w (Err (stops.Ended causes.Read)) l e h = tt
-missing_told old new name w (Err (stops.Ended (causes.Exited n))) l e h = tt
-missing_told old new name w (Err (stops.Ended (causes.Frozen x))) l e h = tt
-missing_told old new name w (Err (stops.Ended causes.EndInString)) l e h = tt
-missing_told old new name w (Err (stops.Ended causes.EndInComment)) l e h = tt
-missing_told old new name w (Err (stops.Ended causes.EndInArguments)) l e h = tt
-missing_told old new name w (Err (stops.Ended causes.ExpansionLimit)) l e h = tt
-missing_told old new name w (Err (stops.Ended causes.NestingLimit)) l e h = tt
+missing_told old new name w r l e h = tt
 
 pub unopened_told : {R : Type 0} (script : R → Option Script) (old new : SessionState) (name : List ℕ)
     (first after : RunSource R) (w : Contents) (r : Result Unit Stop) (s : Source) → first ≡ sources.Unopened name
@@ -357,15 +339,7 @@ never_by o start ss (stops.Ended causes.Write) status out out' reported h =
 never_by o start ss (stops.Ended causes.OutOfMemory) status out out' reported h =
     inl (subst (λ (x : Option (List ℕ)). HasBegun out x ((begun start).so_far).output) (sym h) (nothing_begun out ((begun start).so_far).output), refl)
 never_by o start ss (stops.Ended (causes.Frozen fault)) status out out' reported h = tt
-never_by o start ss stops.Finished status out out' reported h = absurd h
-never_by o start ss (stops.Ended causes.Done) status out out' reported h = absurd h
-never_by o start ss (stops.Ended (causes.Exited n)) status out out' reported h = absurd h
-never_by o start ss (stops.Ended causes.EndInString) status out out' reported h = absurd h
-never_by o start ss (stops.Ended causes.EndInComment) status out out' reported h = absurd h
-never_by o start ss (stops.Ended causes.EndInArguments) status out out' reported h = absurd h
-never_by o start ss (stops.Ended causes.ExpansionLimit) status out out' reported h = absurd h
-never_by o start ss (stops.Ended causes.NestingLimit) status out out' reported h = absurd h
-never_by o start ss (stops.Ended causes.Read) status out out' reported h = absurd h
+never_by o start ss e status out out' reported h = absurd h
 
 pub never_told : (o : Options) (start : Start) (ss : List Source) (st : Result SessionState Stop) (e : Stop) (status : ℕ)
     (d : Ending) (out out' reported : Option (List ℕ)) → st ≡ Err e → d ≡ ending_by status (Err e)
@@ -395,17 +369,7 @@ ended_told : (o : Options) (start : Start) (ss : List Source) (w : Contents) (P 
     → InOrderBy (ending_by status r).cause o start ss w
 ended_told o start ss w P status (Err (stops.Ended causes.Write)) f h = f h
 ended_told o start ss w P status (Err (stops.Ended causes.OutOfMemory)) f h = f h
-ended_told o start ss w P status (Ok wrapped) f h = tt
-ended_told o start ss w P status (Err stops.Finished) f h = tt
-ended_told o start ss w P status (Err (stops.Ended causes.Done)) f h = tt
-ended_told o start ss w P status (Err (stops.Ended causes.Read)) f h = tt
-ended_told o start ss w P status (Err (stops.Ended (causes.Exited n))) f h = tt
-ended_told o start ss w P status (Err (stops.Ended (causes.Frozen x))) f h = tt
-ended_told o start ss w P status (Err (stops.Ended causes.EndInString)) f h = tt
-ended_told o start ss w P status (Err (stops.Ended causes.EndInComment)) f h = tt
-ended_told o start ss w P status (Err (stops.Ended causes.EndInArguments)) f h = tt
-ended_told o start ss w P status (Err (stops.Ended causes.ExpansionLimit)) f h = tt
-ended_told o start ss w P status (Err (stops.Ended causes.NestingLimit)) f h = tt
+ended_told o start ss w P status r f h = tt
 
 pub run_told : (o : Options) (start : Start) (ss : List Source) (s : SessionState) (st : Result SessionState Stop)
     (out0 out1 out2 reported0 reported1 : Option (List ℕ)) (status : ℕ) (r : Result Bool Stop) (e : Ending)

@@ -13,7 +13,7 @@ use Rattle.m4_engine.specs.declared.stop.Stop.{Stop}
 use Rattle.m4_engine.specs.declared.stop.Stop.TheVariants as stops
 use Rattle.m4_engine.specs.declared.source.Source.{Source as RunSource}
 use Rattle.m4_engine.specs.declared.source.Source.TheVariants as sources
-use Rattle.m4_engine.specs.Expansion.{RunSoFar, Limits, EndReason, Ends, NeedsInput, OutOfBound, Ended}
+use Rattle.m4_engine.specs.Expansion.{RunSoFar, Limits, EndReason, Ends, Ended}
 use Rattle.m4_engine.specs.Expand.{expand_input}
 use Rattle.m4_engine.specs.File.{Source, Opened, Unopened, Progress, read_file, file_pending, over_of, after_source}
 use Rattle.m4_engine.specs.File.{after_sources}
@@ -88,16 +88,7 @@ module _ (o m : List ℕ) (out0 out out' reported0 reported reported' : Option (
       messages = (x.1).messages ∙ ap (λ (v : Option (List ℕ)). with_bytes v s.messages) h ∙ with_bytes-append reported0 m s.messages;
     },
   )
-  exact_further causes.Done s x = tt
-  exact_further (causes.Exited n) s x = tt
-  exact_further causes.EndInString s x = tt
-  exact_further causes.EndInComment s x = tt
-  exact_further causes.EndInArguments s x = tt
-  exact_further causes.ExpansionLimit s x = tt
-  exact_further causes.NestingLimit s x = tt
-  exact_further (causes.Frozen f) s x = tt
-  exact_further causes.Write s x = tt
-  exact_further causes.OutOfMemory s x = tt
+  exact_further cause s x = tt
 
   abbrev pub asked_further : (f g : List ℕ → SettledSoFar) (cause : Cause) (taken : List ℕ)
       → ((x : List ℕ) → g x ≡ in_front o m (f x)) → AskedAt f cause taken (writers out out' reported reported')
@@ -172,18 +163,7 @@ fell_so s s' name before after' w l f =
 -- the end of a file that ended the run
 over_reason : (h : EndReason) (c : EndReason) → over_of h ≡ Some c → h ≡ c
 over_reason (Ends causes.Done) c e = absurd cc
-over_reason (Ends (causes.Exited n)) c e = cc
-over_reason (Ends causes.EndInString) c e = cc
-over_reason (Ends causes.EndInComment) c e = cc
-over_reason (Ends causes.EndInArguments) c e = cc
-over_reason (Ends causes.ExpansionLimit) c e = cc
-over_reason (Ends causes.NestingLimit) c e = cc
-over_reason (Ends (causes.Frozen f)) c e = cc
-over_reason (Ends causes.Read) c e = cc
-over_reason (Ends causes.Write) c e = cc
-over_reason (Ends causes.OutOfMemory) c e = cc
-over_reason NeedsInput c e = cc
-over_reason OutOfBound c e = cc
+over_reason reason c e = cc
 
 over_is : (s : SessionState) (name x : List ℕ) → IsOpen s
     → (after_source s.limits (Opened name x) (progress_of s)).over ≡ over_of (read_file s.limits (progress_of s).so_far name x).reason
@@ -274,18 +254,8 @@ file_source script name before after' old new w (Err (stops.Ended causes.OutOfMe
     (name, (h.0).x, (refl, refl, (h.0).given), asked_so old name (h.0).x w causes.OutOfMemory l tt (h.0).asked, tt)
 file_source script name before after' old new w (Err (stops.Ended causes.Done)) l h = absurd h
 file_source script name before after' old new w (Err (stops.Ended (causes.Frozen f))) l h = absurd h
-file_source script name before after' old new w (Err (stops.Ended (causes.Exited n))) l h =
-    ended_within script name before after' old new w (causes.Exited n) l h (λ x. tt) (λ s a l c e. e)
-file_source script name before after' old new w (Err (stops.Ended causes.EndInString)) l h =
-    ended_within script name before after' old new w causes.EndInString l h (λ x. tt) (λ s a l c e. e)
-file_source script name before after' old new w (Err (stops.Ended causes.EndInComment)) l h =
-    ended_within script name before after' old new w causes.EndInComment l h (λ x. tt) (λ s a l c e. e)
-file_source script name before after' old new w (Err (stops.Ended causes.EndInArguments)) l h =
-    ended_within script name before after' old new w causes.EndInArguments l h (λ x. tt) (λ s a l c e. e)
-file_source script name before after' old new w (Err (stops.Ended causes.ExpansionLimit)) l h =
-    ended_within script name before after' old new w causes.ExpansionLimit l h (λ x. tt) (λ s a l c e. e)
-file_source script name before after' old new w (Err (stops.Ended causes.NestingLimit)) l h =
-    ended_within script name before after' old new w causes.NestingLimit l h (λ x. tt) (λ s a l c e. e)
+file_source script name before after' old new w (Err (stops.Ended cause)) l h =
+    ended_within script name before after' old new w cause l h (λ x. tt) (λ s a l c e. e)
 
 pub file_so : {R : Type 0} (script : R → Option Script) (name : List ℕ) (before later : R) (first last : RunSource R)
     (old new : SessionState) (w : Contents) (r : Result Unit Stop) → first ≡ sources.Opened name before
@@ -310,16 +280,7 @@ missing_source script name old new w (Err (stops.Ended causes.Write)) l o h = (
       (record { output = o ∙ with_bytes-nil w.out_old; messages = ((h.1).1).holds }),
   tt,
 )
-missing_source script name old new w (Err (stops.Ended causes.Read)) l o h = absurd h
-missing_source script name old new w (Err (stops.Ended causes.OutOfMemory)) l o h = absurd h
-missing_source script name old new w (Err (stops.Ended causes.Done)) l o h = absurd h
-missing_source script name old new w (Err (stops.Ended (causes.Exited n))) l o h = absurd h
-missing_source script name old new w (Err (stops.Ended causes.EndInString)) l o h = absurd h
-missing_source script name old new w (Err (stops.Ended causes.EndInComment)) l o h = absurd h
-missing_source script name old new w (Err (stops.Ended causes.EndInArguments)) l o h = absurd h
-missing_source script name old new w (Err (stops.Ended causes.ExpansionLimit)) l o h = absurd h
-missing_source script name old new w (Err (stops.Ended causes.NestingLimit)) l o h = absurd h
-missing_source script name old new w (Err (stops.Ended (causes.Frozen f))) l o h = absurd h
+missing_source script name old new w (Err (stops.Ended cause)) l o h = absurd h
 
 pub missing_so : {R : Type 0} (script : R → Option Script) (name : List ℕ) (x y : RunSource R)
     (old new : SessionState) (w : Contents) (r : Result Unit Stop) → x ≡ sources.Unopened name
@@ -424,14 +385,7 @@ pub ended_map : (cause : Cause) (s s' : SettledSoFar) (all : Type 0) (left left'
 ended_map causes.Write s s' all left left' c c' e f g h = tt
 ended_map causes.OutOfMemory s s' all left left' c c' e f g h = tt
 ended_map causes.Read s s' all left left' c c' e f g h = (h.0, subst IsAtFault f h.1)
-ended_map causes.Done s s' all left left' c c' e f g h = sum_map causes.Done s s' all left left' c c' e f g h
-ended_map (causes.Exited n) s s' all left left' c c' e f g h = sum_map (causes.Exited n) s s' all left left' c c' e f g h
-ended_map causes.EndInString s s' all left left' c c' e f g h = sum_map causes.EndInString s s' all left left' c c' e f g h
-ended_map causes.EndInComment s s' all left left' c c' e f g h = sum_map causes.EndInComment s s' all left left' c c' e f g h
-ended_map causes.EndInArguments s s' all left left' c c' e f g h = sum_map causes.EndInArguments s s' all left left' c c' e f g h
-ended_map causes.ExpansionLimit s s' all left left' c c' e f g h = sum_map causes.ExpansionLimit s s' all left left' c c' e f g h
-ended_map causes.NestingLimit s s' all left left' c c' e f g h = sum_map causes.NestingLimit s s' all left left' c c' e f g h
-ended_map (causes.Frozen f) s s' all left left' c c' e i g h = sum_map (causes.Frozen f) s s' all left left' c c' e i g h
+ended_map cause s s' all left left' c c' e f g h = sum_map cause s s' all left left' c c' e f g h
 
 -- all were read
 were_read : {R : Type 0} (script : R → Option Script) (i : ℕ) (xs ys : List (RunSource R)) (ss : List Source)
@@ -533,17 +487,8 @@ module _ {R : Type 0} (script : R → Option Script) (i : ℕ) (xs ys : List (Ru
   stops_here : (y : Stop) → SourceGives script (slice_index_or xs i x) v s s' (writers out out' reported reported')
       (Err y) → SourcesGive script ys (slice_set xs i v) s0 s' (writers out0 out' reported0 reported') (Err y)
   stops_here stops.Finished h = absurd h
-  stops_here (stops.Ended causes.Read) h = ends_here causes.Read h
-  stops_here (stops.Ended causes.Write) h = ends_here causes.Write h
-  stops_here (stops.Ended causes.OutOfMemory) h = ends_here causes.OutOfMemory h
-  stops_here (stops.Ended causes.Done) h = ends_here causes.Done h
-  stops_here (stops.Ended (causes.Exited n)) h = ends_here (causes.Exited n) h
-  stops_here (stops.Ended causes.EndInString) h = ends_here causes.EndInString h
-  stops_here (stops.Ended causes.EndInComment) h = ends_here causes.EndInComment h
-  stops_here (stops.Ended causes.EndInArguments) h = ends_here causes.EndInArguments h
-  stops_here (stops.Ended causes.ExpansionLimit) h = ends_here causes.ExpansionLimit h
-  stops_here (stops.Ended causes.NestingLimit) h = ends_here causes.NestingLimit h
   stops_here (stops.Ended (causes.Frozen f)) h = absurd h
+  stops_here (stops.Ended cause) h = ends_here cause h
 
   pub stops_so : (y : Stop) (q r : Result Unit Stop) → q ≡ Err y → r ≡ Err y
       → SourceGives script (slice_index_or xs i x) v s s' (writers out out' reported reported') q

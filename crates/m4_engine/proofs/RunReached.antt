@@ -63,18 +63,7 @@ ended_needs limits r name x w =
 -- only the end of an input lets a run go on
 only_done : (h : EndReason) → over_of h ≡ None → h ≡ Ends causes.Done
 only_done (Ends causes.Done) e = refl
-only_done (Ends (causes.Exited n)) e = cc
-only_done (Ends causes.EndInString) e = cc
-only_done (Ends causes.EndInComment) e = cc
-only_done (Ends causes.EndInArguments) e = cc
-only_done (Ends causes.ExpansionLimit) e = cc
-only_done (Ends causes.NestingLimit) e = cc
-only_done (Ends (causes.Frozen f)) e = cc
-only_done (Ends causes.Read) e = cc
-only_done (Ends causes.Write) e = cc
-only_done (Ends causes.OutOfMemory) e = cc
-only_done NeedsInput e = cc
-only_done OutOfBound e = cc
+only_done reason e = cc
 
 -- a run that isn't over after a source wasn't over before it
 open_before : (limits : Limits) (s : Source) (p : Progress) (v : Option EndReason) → p.over ≡ v → (after_source limits s p).over ≡ None → p.over ≡ None
@@ -176,12 +165,7 @@ end_wrote freezes old new w (Err (stops.Ended (causes.Frozen f))) l h = absurd h
 end_wrote freezes old new w (Err (stops.Ended causes.Read)) l h = absurd h
 end_wrote freezes old new w (Err (stops.Ended causes.Write)) l h = (_, _, record { output = ((h.output).1).holds; messages = ((h.messages).1).holds })
 end_wrote freezes old new w (Err (stops.Ended causes.OutOfMemory)) l h = (_, _, record { output = ((h.output).1).holds; messages = ((h.messages).1).holds })
-end_wrote freezes old new w (Err (stops.Ended (causes.Exited n))) l h = (_, _, record { output = (h.0).output; messages = (h.0).messages })
-end_wrote freezes old new w (Err (stops.Ended causes.EndInString)) l h = (_, _, record { output = (h.0).output; messages = (h.0).messages })
-end_wrote freezes old new w (Err (stops.Ended causes.EndInComment)) l h = (_, _, record { output = (h.0).output; messages = (h.0).messages })
-end_wrote freezes old new w (Err (stops.Ended causes.EndInArguments)) l h = (_, _, record { output = (h.0).output; messages = (h.0).messages })
-end_wrote freezes old new w (Err (stops.Ended causes.ExpansionLimit)) l h = (_, _, record { output = (h.0).output; messages = (h.0).messages })
-end_wrote freezes old new w (Err (stops.Ended causes.NestingLimit)) l h = (_, _, record { output = (h.0).output; messages = (h.0).messages })
+end_wrote freezes old new w (Err (stops.Ended cause)) l h = (_, _, record { output = (h.0).output; messages = (h.0).messages })
 
 -- what was settled, and more
 more_than : (old mid new : Option (List ℕ)) (x y z : List ℕ) → (b : IsBeginning x y) → mid ≡ with_bytes old y
@@ -251,12 +235,7 @@ module _ {R : Type 0} (script : R → Option Script) (old new : List (RunSource 
   end_by (stops.Ended causes.Read) g = absurd g
   end_by (stops.Ended causes.Write) g = reached_end causes.Write (λ x w. tt) (λ x a l b h. tt) (Err (stops.Ended causes.Write)) g
   end_by (stops.Ended causes.OutOfMemory) g = reached_end causes.OutOfMemory (λ x w. tt) (λ x a l b h. tt) (Err (stops.Ended causes.OutOfMemory)) g
-  end_by (stops.Ended (causes.Exited c)) g = reached_end (causes.Exited c) (λ x w. tt) (λ x a l b h. inr h) (Err (stops.Ended (causes.Exited c))) g
-  end_by (stops.Ended causes.EndInString) g = reached_end causes.EndInString (λ x w. tt) (λ x a l b h. inr h) (Err (stops.Ended causes.EndInString)) g
-  end_by (stops.Ended causes.EndInComment) g = reached_end causes.EndInComment (λ x w. tt) (λ x a l b h. inr h) (Err (stops.Ended causes.EndInComment)) g
-  end_by (stops.Ended causes.EndInArguments) g = reached_end causes.EndInArguments (λ x w. tt) (λ x a l b h. inr h) (Err (stops.Ended causes.EndInArguments)) g
-  end_by (stops.Ended causes.ExpansionLimit) g = reached_end causes.ExpansionLimit (λ x w. tt) (λ x a l b h. inr h) (Err (stops.Ended causes.ExpansionLimit)) g
-  end_by (stops.Ended causes.NestingLimit) g = reached_end causes.NestingLimit (λ x w. tt) (λ x a l b h. inr h) (Err (stops.Ended causes.NestingLimit)) g
+  end_by (stops.Ended cause) g = reached_end cause (λ x w. tt) (λ x a l b h. inr h) (Err (stops.Ended cause)) g
 
   pub late_reached : (w : Three (Option (List ℕ))) (e : Stop) (q : Result Unit Stop) (r : Result Bool Stop)
       → w.two ≡ writers out out' reported reported' → q ≡ Err e → r ≡ Err e → CloseGives freezes s1 s2 w q
@@ -271,16 +250,7 @@ early_by : {R : Type 0} (script : R → Option Script) (old new : List (RunSourc
     (e : Stop) → IsLeft {A = Unit} s1 (Err e) → SourcesGive script old new s s1 w (Err e) → RunReached script old new s w (Err e)
 early_by script old new s s1 w stops.Finished l h = h
 early_by script old new s s1 w (stops.Ended causes.Done) l h = absurd l
-early_by script old new s s1 w (stops.Ended (causes.Exited n)) l h = h
-early_by script old new s s1 w (stops.Ended causes.EndInString) l h = h
-early_by script old new s s1 w (stops.Ended causes.EndInComment) l h = h
-early_by script old new s s1 w (stops.Ended causes.EndInArguments) l h = h
-early_by script old new s s1 w (stops.Ended causes.ExpansionLimit) l h = h
-early_by script old new s s1 w (stops.Ended causes.NestingLimit) l h = h
-early_by script old new s s1 w (stops.Ended (causes.Frozen f)) l h = h
-early_by script old new s s1 w (stops.Ended causes.Read) l h = h
-early_by script old new s s1 w (stops.Ended causes.Write) l h = h
-early_by script old new s s1 w (stops.Ended causes.OutOfMemory) l h = h
+early_by script old new s s1 w (stops.Ended cause) l h = h
 
 pub early_reached : {R : Type 0} (script : R → Option Script) (old new : List (RunSource R)) (s s1 : SessionState)
     (w : Contents) (e : Stop) (q : Result Unit Stop) (r : Result Bool Stop) → q ≡ Err e → r ≡ Err e → IsLeft s1 q
@@ -297,14 +267,7 @@ none_by script xs o start w stops.Finished status h = absurd h
 none_by script xs o start w (stops.Ended (causes.Frozen f)) status h = refl
 none_by script xs o start w (stops.Ended causes.Write) status h = inl refl
 none_by script xs o start w (stops.Ended causes.OutOfMemory) status h = inl refl
-none_by script xs o start w (stops.Ended causes.Done) status h = absurd h
-none_by script xs o start w (stops.Ended (causes.Exited n)) status h = absurd h
-none_by script xs o start w (stops.Ended causes.EndInString) status h = absurd h
-none_by script xs o start w (stops.Ended causes.EndInComment) status h = absurd h
-none_by script xs o start w (stops.Ended causes.EndInArguments) status h = absurd h
-none_by script xs o start w (stops.Ended causes.ExpansionLimit) status h = absurd h
-none_by script xs o start w (stops.Ended causes.NestingLimit) status h = absurd h
-none_by script xs o start w (stops.Ended causes.Read) status h = absurd h
+none_by script xs o start w (stops.Ended cause) status h = absurd h
 
 pub never_passed : {R : Type 0} (script : R → Option Script) (xs : List (RunSource R)) (o : Options) (start : Start)
     (w : Contents) (st : Result SessionState Stop) (e : Stop) (status : ℕ) (d : Ending) → st ≡ Err e
@@ -355,16 +318,10 @@ module _ {R : Type 0} (script : R → Option Script) (old new : List (RunSource 
       record { sources = h.sources; read = h.read; reached = from_start causes.Done h.reached; all = h.all }
   passed_by status (Err stops.Finished) h = absurd h
   passed_by status (Err (stops.Ended causes.Done)) h = absurd h
-  passed_by status (Err (stops.Ended (causes.Exited n))) h = from_start (causes.Exited n) h
-  passed_by status (Err (stops.Ended causes.EndInString)) h = from_start causes.EndInString h
-  passed_by status (Err (stops.Ended causes.EndInComment)) h = from_start causes.EndInComment h
-  passed_by status (Err (stops.Ended causes.EndInArguments)) h = from_start causes.EndInArguments h
-  passed_by status (Err (stops.Ended causes.ExpansionLimit)) h = from_start causes.ExpansionLimit h
-  passed_by status (Err (stops.Ended causes.NestingLimit)) h = from_start causes.NestingLimit h
-  passed_by status (Err (stops.Ended causes.Read)) h = from_start causes.Read h
   passed_by status (Err (stops.Ended causes.Write)) h = inr (from_start causes.Write h)
   passed_by status (Err (stops.Ended causes.OutOfMemory)) h = inr (from_start causes.OutOfMemory h)
   passed_by status (Err (stops.Ended (causes.Frozen f))) h = absurd h
+  passed_by status (Err (stops.Ended cause)) h = from_start cause h
 
 pub passed : {R : Type 0} (script : R → Option Script) (old new : List (RunSource R)) (o : Options) (start : Start)
     (s : SessionState) (st : Result SessionState Stop) (status : ℕ) (r : Result Bool Stop) (d : Ending)

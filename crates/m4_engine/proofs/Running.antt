@@ -591,12 +591,7 @@ lack_counted x before after cause out0 out out' reported0 reported g k f h = by 
 
 pub in_order_end : (w : Wanted) (e : Engine) (p : Pending) (c : Contents) (end : TurnEnd) → OrderBy w e p c (Err (cause_of_end end))
 in_order_end w e p c turn_ends.Done = tt
-in_order_end w e p c (turn_ends.Exited code) = tt
-in_order_end w e p c turn_ends.EndInString = tt
-in_order_end w e p c turn_ends.EndInComment = tt
-in_order_end w e p c turn_ends.EndInArguments = tt
-in_order_end w e p c turn_ends.ExpansionLimit = tt
-in_order_end w e p c turn_ends.NestingLimit = tt
+in_order_end w e p c end = tt
 
 -- ---- by the answers of calls
 
@@ -607,12 +602,7 @@ line_done_by i j v w e h = subst (LineGives i j) e h
 hand_ends_so : (w : Wanted) (old new : Engine) (i j : Held) (c : Contents) (end : TurnEnd)
     → HandEnds w old i.pending (cause_of_end end) new c → HandGives w old new i j c (Err (cause_of_end end))
 hand_ends_so w old new i j c turn_ends.Done h = h
-hand_ends_so w old new i j c (turn_ends.Exited n) h = h
-hand_ends_so w old new i j c turn_ends.EndInString h = h
-hand_ends_so w old new i j c turn_ends.EndInComment h = h
-hand_ends_so w old new i j c turn_ends.EndInArguments h = h
-hand_ends_so w old new i j c turn_ends.ExpansionLimit h = h
-hand_ends_so w old new i j c turn_ends.NestingLimit h = h
+hand_ends_so w old new i j c end h = h
 
 pub hand_ends : (w : Wanted) (old new : Engine) (i j : Held) (c : Contents) (end : TurnEnd) (cause : Cause)
     → cause ≡ cause_of_end end → HandEnds w old i.pending (cause_of_end end) new c → HandGives w old new i j c (Err cause)

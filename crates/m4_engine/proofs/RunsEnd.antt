@@ -316,16 +316,7 @@ CausedOver (Some reason) = IsCaused reason
 by_caused : (c : Cause) → CausedOver (over_by c)
 unfolding CausedOver
 by_caused causes.Done = tt
-by_caused (causes.Exited n) = (causes.Exited n, refl)
-by_caused causes.EndInString = (causes.EndInString, refl)
-by_caused causes.EndInComment = (causes.EndInComment, refl)
-by_caused causes.EndInArguments = (causes.EndInArguments, refl)
-by_caused causes.ExpansionLimit = (causes.ExpansionLimit, refl)
-by_caused causes.NestingLimit = (causes.NestingLimit, refl)
-by_caused (causes.Frozen f) = (causes.Frozen f, refl)
-by_caused causes.Read = (causes.Read, refl)
-by_caused causes.Write = (causes.Write, refl)
-by_caused causes.OutOfMemory = (causes.OutOfMemory, refl)
+by_caused cause = (cause, refl)
 
 over_caused : (h : EndReason) → IsCaused h → CausedOver (over_of h)
 over_caused h c = subst (λ x. CausedOver (over_of x)) (sym c.1) (by_caused c.0)

@@ -117,29 +117,12 @@ pub closed_expands : (old new : Engine) (p : Pending) (before after : Option Scr
     → p.may_follow ≡ false → Expands old new p before after w cause → (after ≡ before) × ClosedExpands old new p w cause
 closed_expands old new p before after w (causes.Frozen f) c h = absurd h
 closed_expands old new p before after w causes.Read c h = absurd (closed_fell old p before after w c h)
-closed_expands old new p before after w causes.Write c h = closed_so old p before after w _ c h
-closed_expands old new p before after w causes.OutOfMemory c h = closed_so old p before after w _ c h
-closed_expands old new p before after w causes.Done c h = closed_so old p before after w _ c h
-closed_expands old new p before after w (causes.Exited n) c h = closed_so old p before after w _ c h
-closed_expands old new p before after w causes.EndInString c h = closed_so old p before after w _ c h
-closed_expands old new p before after w causes.EndInComment c h = closed_so old p before after w _ c h
-closed_expands old new p before after w causes.EndInArguments c h = closed_so old p before after w _ c h
-closed_expands old new p before after w causes.ExpansionLimit c h = closed_so old p before after w _ c h
-closed_expands old new p before after w causes.NestingLimit c h = closed_so old p before after w _ c h
+closed_expands old new p before after w cause c h = closed_so old p before after w _ c h
 
 -- a file's reader failed where the expansion says so
 pub expand_reads : (cause : Cause) (old mid new : ℕ) → mid ≡ old → ReadsBy cause mid new → ReadFails (answer_by cause) old new
 expand_reads causes.Read old mid new e h = h ∙ ap one_more e
-expand_reads causes.Done old mid new e h = h ∙ e
-expand_reads (causes.Exited n) old mid new e h = h ∙ e
-expand_reads causes.EndInString old mid new e h = h ∙ e
-expand_reads causes.EndInComment old mid new e h = h ∙ e
-expand_reads causes.EndInArguments old mid new e h = h ∙ e
-expand_reads causes.ExpansionLimit old mid new e h = h ∙ e
-expand_reads causes.NestingLimit old mid new e h = h ∙ e
-expand_reads (causes.Frozen f) old mid new e h = h ∙ e
-expand_reads causes.Write old mid new e h = h ∙ e
-expand_reads causes.OutOfMemory old mid new e h = h ∙ e
+expand_reads cause old mid new e h = h ∙ e
 
 pub file_reads : (cause : Cause) (result : Result Unit Stop) (old mid new : ℕ) → result ≡ answer_by cause → mid ≡ old
     → ReadsBy cause mid new → ReadFails result old new
@@ -287,16 +270,11 @@ by_cause : (e0 e1 : Engine) (any_missing : Bool) (name : List ℕ) (cause : Caus
     → FileGives name before after (session_of e0 any_missing None false)
     (session_of (at_rest e1) any_missing (over_after cause None) false) w (answer_by cause)
 by_cause e0 e1 any_missing name causes.Done before after w d = file_done e0 e1 any_missing name before after w d
-by_cause e0 e1 any_missing name (causes.Exited n) before after w d = file_ended e0 e1 any_missing name (causes.Exited n) before after w refl d
-by_cause e0 e1 any_missing name causes.EndInString before after w d = file_ended e0 e1 any_missing name causes.EndInString before after w refl d
-by_cause e0 e1 any_missing name causes.EndInComment before after w d = file_ended e0 e1 any_missing name causes.EndInComment before after w refl d
-by_cause e0 e1 any_missing name causes.EndInArguments before after w d = file_ended e0 e1 any_missing name causes.EndInArguments before after w refl d
-by_cause e0 e1 any_missing name causes.ExpansionLimit before after w d = file_ended e0 e1 any_missing name causes.ExpansionLimit before after w refl d
-by_cause e0 e1 any_missing name causes.NestingLimit before after w d = file_ended e0 e1 any_missing name causes.NestingLimit before after w refl d
 by_cause e0 e1 any_missing name (causes.Frozen f) before after w d = absurd d
 by_cause e0 e1 any_missing name causes.Read before after w d = file_fell e0 e1 any_missing name before after w d
 by_cause e0 e1 any_missing name causes.Write before after w d = file_broke e0 e1 any_missing name causes.Write before after w d
 by_cause e0 e1 any_missing name causes.OutOfMemory before after w d = file_broke e0 e1 any_missing name causes.OutOfMemory before after w d
+by_cause e0 e1 any_missing name cause before after w d = file_ended e0 e1 any_missing name cause before after w refl d
 
 -- a session that goes on
 open_is : (old : SessionState) (e0 : Engine) (any_missing : Bool) (over : Option Cause) (finished : Bool)
@@ -351,16 +329,11 @@ module _ (old : SessionState) (e0 e1 : Engine) (any_missing : Bool) (p : Pending
 
   round_by : (cause : Cause) → ClosedExpands e0 e1 p w cause → To cause
   round_by causes.Done k = ((input_done old e0 e1 any_missing None causes.Done d w l e k refl, refl), tt)
-  round_by (causes.Exited n) k = (ends_by (causes.Exited n) k refl, tt)
-  round_by causes.EndInString k = (ends_by causes.EndInString k refl, tt)
-  round_by causes.EndInComment k = (ends_by causes.EndInComment k refl, tt)
-  round_by causes.EndInArguments k = (ends_by causes.EndInArguments k refl, tt)
-  round_by causes.ExpansionLimit k = (ends_by causes.ExpansionLimit k refl, tt)
-  round_by causes.NestingLimit k = (ends_by causes.NestingLimit k refl, tt)
   round_by (causes.Frozen f) k = absurd k
   round_by causes.Read k = absurd k
   round_by causes.Write k = (breaks_by causes.Write k, tt)
   round_by causes.OutOfMemory k = (breaks_by causes.OutOfMemory k, tt)
+  round_by cause k = (ends_by cause k refl, tt)
 
 pub round_gives : (old new : SessionState) (e0 ea e1 e2 : Engine) (any_missing : Bool) (over : Option Cause)
     (finished : Bool) (x : List ℕ) (i : Held) (before after : Option Script) (w : Contents) (cause : Cause)

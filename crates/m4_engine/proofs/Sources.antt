@@ -169,13 +169,8 @@ opened_goes old new name before after w (Err (stops.Ended causes.Read)) s l t h 
 opened_goes old new name before after w (Err (stops.Ended causes.Write)) s l t h = broke_goes old new name before after w s causes.Write t h
 opened_goes old new name before after w (Err (stops.Ended causes.OutOfMemory)) s l t h = broke_goes old new name before after w s causes.OutOfMemory t h
 opened_goes old new name before after w (Err (stops.Ended causes.Done)) s l t h = absurd h
-opened_goes old new name before after w (Err (stops.Ended (causes.Exited n))) s l t h = ended_goes old new name before after w s (causes.Exited n) t h
-opened_goes old new name before after w (Err (stops.Ended causes.EndInString)) s l t h = ended_goes old new name before after w s causes.EndInString t h
-opened_goes old new name before after w (Err (stops.Ended causes.EndInComment)) s l t h = ended_goes old new name before after w s causes.EndInComment t h
-opened_goes old new name before after w (Err (stops.Ended causes.EndInArguments)) s l t h = ended_goes old new name before after w s causes.EndInArguments t h
-opened_goes old new name before after w (Err (stops.Ended causes.ExpansionLimit)) s l t h = ended_goes old new name before after w s causes.ExpansionLimit t h
-opened_goes old new name before after w (Err (stops.Ended causes.NestingLimit)) s l t h = ended_goes old new name before after w s causes.NestingLimit t h
 opened_goes old new name before after w (Err (stops.Ended (causes.Frozen f))) s l t h = absurd h
+opened_goes old new name before after w (Err (stops.Ended cause)) s l t h = ended_goes old new name before after w s cause t h
 
 pub opened_described : {R : Type 0} (script : R → Option Script) (old new : SessionState) (name : List ℕ)
     (before later : R) (first after : RunSource R) (w : Contents) (r : Result Unit Stop) (s : Source)
@@ -214,16 +209,7 @@ missing_goes old new name w (Err (stops.Ended causes.Write)) l o h = record {
   output = silent_begun w.out_old w.out_new _ o;
   messages = subst (λ (r : RunSoFar). HasBegun w.messages_old w.messages_new r.messages) (sym (missing_is old name l)) h.1;
 }
-missing_goes old new name w (Err (stops.Ended causes.Read)) l o h = absurd h
-missing_goes old new name w (Err (stops.Ended causes.OutOfMemory)) l o h = absurd h
-missing_goes old new name w (Err (stops.Ended causes.Done)) l o h = absurd h
-missing_goes old new name w (Err (stops.Ended (causes.Exited n))) l o h = absurd h
-missing_goes old new name w (Err (stops.Ended causes.EndInString)) l o h = absurd h
-missing_goes old new name w (Err (stops.Ended causes.EndInComment)) l o h = absurd h
-missing_goes old new name w (Err (stops.Ended causes.EndInArguments)) l o h = absurd h
-missing_goes old new name w (Err (stops.Ended causes.ExpansionLimit)) l o h = absurd h
-missing_goes old new name w (Err (stops.Ended causes.NestingLimit)) l o h = absurd h
-missing_goes old new name w (Err (stops.Ended (causes.Frozen f))) l o h = absurd h
+missing_goes old new name w (Err (stops.Ended cause)) l o h = absurd h
 
 -- a source that wasn't read, for want of memory
 pub unread_goes : (old new : SessionState) (w : Contents) (p : Progress) (r : Result Unit Stop)

@@ -118,17 +118,11 @@ module _ (x : List ℕ) (r : RunResult) (out0 out1 out2 reported reported' froze
   refused kinds.OutOfMemory d h = short d h
 
   gives : (c : Cause) (d : Ending) → GivesBy c r d V.two → GivesBy c (issuing x r) d W.two
-  gives causes.Done d h = wrote d h
-  gives (causes.Exited n) d h = wrote d h
-  gives causes.EndInString d h = wrote d h
-  gives causes.EndInComment d h = wrote d h
-  gives causes.EndInArguments d h = wrote d h
-  gives causes.ExpansionLimit d h = wrote d h
-  gives causes.NestingLimit d h = wrote d h
   gives (causes.Frozen f) d h = refused f.kind d h
   gives causes.Read d h = short d h
   gives causes.Write d h = short d h
   gives causes.OutOfMemory d h = short d h
+  gives cause d h = wrote d h
 
   began : FrozenBegan r V → FrozenBegan (issuing x r) W
   began h = record {
@@ -149,16 +143,8 @@ module _ (x : List ℕ) (r : RunResult) (out0 out1 out2 reported reported' froze
 
   froze : (c : Cause) → FrozenBy c r V → FrozenBy c (issuing x r) W
   froze causes.Done h = has r.frozen h
-  froze (causes.Exited n) h = h
-  froze causes.EndInString h = h
-  froze causes.EndInComment h = h
-  froze causes.EndInArguments h = h
-  froze causes.ExpansionLimit h = h
-  froze causes.NestingLimit h = h
-  froze (causes.Frozen f) h = h
-  froze causes.Read h = h
   froze causes.Write h = began_or h
-  froze causes.OutOfMemory h = h
+  froze cause h = h
 
   -- what a run gives after what its start issues
   issued_gives : (d : Ending) → RunGives r d V → RunGives (issuing x r) d W
@@ -317,19 +303,12 @@ never_by : (o : Options) (start : Start) (ss : List Source) (e : Stop) (out out'
     → RunGives (run_from o start ss) (ending_by (status_after e) (Err e))
     (record { two = writers out out' reported reported; frozen_old = frozen; frozen_new = frozen })
 never_by o start ss stops.Finished out out' reported frozen h = absurd h
-never_by o start ss (stops.Ended causes.Done) out out' reported frozen h = absurd h
-never_by o start ss (stops.Ended (causes.Exited n)) out out' reported frozen h = absurd h
-never_by o start ss (stops.Ended causes.EndInString) out out' reported frozen h = absurd h
-never_by o start ss (stops.Ended causes.EndInComment) out out' reported frozen h = absurd h
-never_by o start ss (stops.Ended causes.EndInArguments) out out' reported frozen h = absurd h
-never_by o start ss (stops.Ended causes.ExpansionLimit) out out' reported frozen h = absurd h
-never_by o start ss (stops.Ended causes.NestingLimit) out out' reported frozen h = absurd h
-never_by o start ss (stops.Ended causes.Read) out out' reported frozen h = absurd h
 never_by o start ss (stops.Ended (causes.Frozen fault)) out out' reported frozen h =
     record { gives = refused_gives fault.kind o start fault ss out out' reported refl h.0 h.1; frozen = refl }
 never_by o start ss (stops.Ended causes.Write) out out' reported frozen h =
     record { gives = fell_issuing o start ss _ out out' reported h.0 h.1 refl h.2 h.3; frozen = inl refl }
 never_by o start ss (stops.Ended causes.OutOfMemory) out out' reported frozen h = record { gives = fell_silent _ _ out out' reported refl h; frozen = refl }
+never_by o start ss (stops.Ended cause) out out' reported frozen h = absurd h
 
 pub never_gives : (o : Options) (start : Start) (ss : List Source) (st : Result SessionState Stop) (e : Stop) (n : ℕ)
     (d : Ending) (out out' reported frozen : Option (List ℕ)) → st ≡ Err e → n ≡ status_after e
@@ -344,17 +323,10 @@ never_gives o start ss st e n d out out' reported frozen i m j h =
 -- how it ended
 begun_cause : (o : Options) (e : Stop) → IsBegun o (Err e) → (cause : Cause) × (e ≡ stops.Ended cause) × (cause ≢ causes.Done) × (cause ≢ causes.Read)
 begun_cause o stops.Finished h = absurd h
-begun_cause o (stops.Ended causes.Done) h = absurd h
-begun_cause o (stops.Ended (causes.Exited n)) h = absurd h
-begun_cause o (stops.Ended causes.EndInString) h = absurd h
-begun_cause o (stops.Ended causes.EndInComment) h = absurd h
-begun_cause o (stops.Ended causes.EndInArguments) h = absurd h
-begun_cause o (stops.Ended causes.ExpansionLimit) h = absurd h
-begun_cause o (stops.Ended causes.NestingLimit) h = absurd h
-begun_cause o (stops.Ended causes.Read) h = absurd h
 begun_cause o (stops.Ended (causes.Frozen fault)) h = (causes.Frozen fault, refl, λ x. cc, λ x. cc)
 begun_cause o (stops.Ended causes.Write) h = (causes.Write, refl, λ x. cc, λ x. cc)
 begun_cause o (stops.Ended causes.OutOfMemory) h = (causes.OutOfMemory, refl, λ x. cc, λ x. cc)
+begun_cause o (stops.Ended cause) h = absurd h
 
 never_is : (o : Options) (st : Result SessionState Stop) (e : Stop) (n : ℕ) (d : Ending) → st ≡ Err e
     → n ≡ status_after e → d ≡ ending_by n (Err e) → IsBegun o st
@@ -417,16 +389,7 @@ written_by : (cause : Cause) (old new reported frozen : ℕ) (w : Three (Option 
     (NoneOfThree (record { two = writers old new reported reported; frozen_old = frozen; frozen_new = frozen }))
     (OneOfThree (record { two = writers old new reported reported; frozen_old = frozen; frozen_new = frozen }) w)
 written_by causes.Write old new reported frozen w s h = inl (inl (h, refl), refl, s)
-written_by causes.Done old new reported frozen w s h = ((h, refl), refl)
-written_by (causes.Exited n) old new reported frozen w s h = ((h, refl), refl)
-written_by causes.EndInString old new reported frozen w s h = ((h, refl), refl)
-written_by causes.EndInComment old new reported frozen w s h = ((h, refl), refl)
-written_by causes.EndInArguments old new reported frozen w s h = ((h, refl), refl)
-written_by causes.ExpansionLimit old new reported frozen w s h = ((h, refl), refl)
-written_by causes.NestingLimit old new reported frozen w s h = ((h, refl), refl)
-written_by (causes.Frozen f) old new reported frozen w s h = ((h, refl), refl)
-written_by causes.Read old new reported frozen w s h = ((h, refl), refl)
-written_by causes.OutOfMemory old new reported frozen w s h = ((h, refl), refl)
+written_by cause old new reported frozen w s h = ((h, refl), refl)
 
 pub never_wrote : (o : Options) (st : Result SessionState Stop) (e : Stop) (n : ℕ) (d : Ending)
     (old new reported frozen : ℕ) (w : Three (Option (List ℕ))) → st ≡ Err e → n ≡ status_after e
@@ -462,16 +425,8 @@ left_unrefused : (new : SessionState) (n : ℕ) (r : Result Bool Stop) (fault : 
 left_unrefused new n (Ok wrapped) fault l c = cc
 left_unrefused new n (Err stops.Finished) fault l c = l
 left_unrefused new n (Err (stops.Ended causes.Done)) fault l c = l
-left_unrefused new n (Err (stops.Ended (causes.Exited k))) fault l c = cc
-left_unrefused new n (Err (stops.Ended causes.EndInString)) fault l c = cc
-left_unrefused new n (Err (stops.Ended causes.EndInComment)) fault l c = cc
-left_unrefused new n (Err (stops.Ended causes.EndInArguments)) fault l c = cc
-left_unrefused new n (Err (stops.Ended causes.ExpansionLimit)) fault l c = cc
-left_unrefused new n (Err (stops.Ended causes.NestingLimit)) fault l c = cc
 left_unrefused new n (Err (stops.Ended (causes.Frozen f))) fault l c = l
-left_unrefused new n (Err (stops.Ended causes.Read)) fault l c = cc
-left_unrefused new n (Err (stops.Ended causes.Write)) fault l c = cc
-left_unrefused new n (Err (stops.Ended causes.OutOfMemory)) fault l c = cc
+left_unrefused new n (Err (stops.Ended cause)) fault l c = cc
 
 pub not_refused : (new : SessionState) (n : ℕ) (r : Result Bool Stop) (d : Ending) (fault : FrozenFault)
     → d ≡ ending_by n r → IsLeft new r → d.cause ≡ causes.Frozen fault → ⊥
@@ -511,15 +466,7 @@ pub spared_answer : (cause : Cause) (two two' : Contents) (frozen frozen' : Opti
     → Spares cause (record { two = two'; frozen_old = frozen; frozen_new = frozen' })
 spared_answer causes.Done two two' frozen frozen' h = tt
 spared_answer causes.Write two two' frozen frozen' h = tt
-spared_answer (causes.Exited n) two two' frozen frozen' h = h
-spared_answer causes.EndInString two two' frozen frozen' h = h
-spared_answer causes.EndInComment two two' frozen frozen' h = h
-spared_answer causes.EndInArguments two two' frozen frozen' h = h
-spared_answer causes.ExpansionLimit two two' frozen frozen' h = h
-spared_answer causes.NestingLimit two two' frozen frozen' h = h
-spared_answer (causes.Frozen f) two two' frozen frozen' h = h
-spared_answer causes.Read two two' frozen frozen' h = h
-spared_answer causes.OutOfMemory two two' frozen frozen' h = h
+spared_answer cause two two' frozen frozen' h = h
 
 spared_by : (n : ℕ) (r : Result Bool Stop) (two two' : Contents) (frozen frozen' : Option (List ℕ))
     → SparesBy r (record { two = two; frozen_old = frozen; frozen_new = frozen' })
@@ -540,16 +487,7 @@ done_answer : (new : SessionState) (n : ℕ) (r : Result Bool Stop) → IsLeft n
 done_answer new n (Ok b) l c = (b, refl)
 done_answer new n (Err stops.Finished) l c = absurd l
 done_answer new n (Err (stops.Ended causes.Done)) l c = absurd l
-done_answer new n (Err (stops.Ended (causes.Exited k))) l c = cc
-done_answer new n (Err (stops.Ended causes.EndInString)) l c = cc
-done_answer new n (Err (stops.Ended causes.EndInComment)) l c = cc
-done_answer new n (Err (stops.Ended causes.EndInArguments)) l c = cc
-done_answer new n (Err (stops.Ended causes.ExpansionLimit)) l c = cc
-done_answer new n (Err (stops.Ended causes.NestingLimit)) l c = cc
-done_answer new n (Err (stops.Ended (causes.Frozen f))) l c = cc
-done_answer new n (Err (stops.Ended causes.Read)) l c = cc
-done_answer new n (Err (stops.Ended causes.Write)) l c = cc
-done_answer new n (Err (stops.Ended causes.OutOfMemory)) l c = cc
+done_answer new n (Err (stops.Ended cause)) l c = cc
 
 pub ended_done : (P : Type 0) (new : SessionState) (n : ℕ) (r : Result Bool Stop) (d : Ending) → d ≡ ending_by n r
     → IsLeft new r → d.cause ≡ causes.Done → OnOk r P → P
@@ -570,17 +508,9 @@ reload_by : (o : Options) (script : Script) (out out' : Option (List ℕ)) (st :
     → ReloadGives o (Some script) out out' st → BeginGives (start_of o.prefix (Some script)) o out out' st
 reload_by o script out out' (Ok new) h = (h.0, h.1, sym (is_start o.prefix (Some script) (From h.0 h.1) h.2), h.3, h.4)
 reload_by o script out out' (Err stops.Finished) h = absurd h
-reload_by o script out out' (Err (stops.Ended causes.Done)) h = absurd h
-reload_by o script out out' (Err (stops.Ended (causes.Exited n))) h = absurd h
-reload_by o script out out' (Err (stops.Ended causes.EndInString)) h = absurd h
-reload_by o script out out' (Err (stops.Ended causes.EndInComment)) h = absurd h
-reload_by o script out out' (Err (stops.Ended causes.EndInArguments)) h = absurd h
-reload_by o script out out' (Err (stops.Ended causes.ExpansionLimit)) h = absurd h
-reload_by o script out out' (Err (stops.Ended causes.NestingLimit)) h = absurd h
-reload_by o script out out' (Err (stops.Ended causes.Read)) h = absurd h
 reload_by o script out out' (Err (stops.Ended (causes.Frozen fault))) h = (h.0, λ n. sym (is_start o.prefix (Some script) (Faulty fault) (h.1 n)))
 reload_by o script out out' (Err (stops.Ended causes.Write)) h = (h.0, h.1, sym (is_start o.prefix (Some script) (From h.0 h.1) h.2), h.3)
-reload_by o script out out' (Err (stops.Ended causes.OutOfMemory)) h = absurd h
+reload_by o script out out' (Err (stops.Ended cause)) h = absurd h
 
 pub reload_begins : {R : Type 0} (script : R → Option Script) (reader : R) (frozen : Option R) (o : Options)
     (file : Option Script) (out out' : Option (List ℕ)) (st : Result SessionState Stop) → frozen ≡ Some reader
@@ -618,17 +548,10 @@ reload_is_begun : (o : Options) (file : Option Script) (out out' : Option (List 
     → ReloadGives o file out out' st → IsBegun o st
 reload_is_begun o file out out' (Ok new) h = (h.0, h.3)
 reload_is_begun o file out out' (Err stops.Finished) h = absurd h
-reload_is_begun o file out out' (Err (stops.Ended causes.Done)) h = absurd h
-reload_is_begun o file out out' (Err (stops.Ended (causes.Exited n))) h = absurd h
-reload_is_begun o file out out' (Err (stops.Ended causes.EndInString)) h = absurd h
-reload_is_begun o file out out' (Err (stops.Ended causes.EndInComment)) h = absurd h
-reload_is_begun o file out out' (Err (stops.Ended causes.EndInArguments)) h = absurd h
-reload_is_begun o file out out' (Err (stops.Ended causes.ExpansionLimit)) h = absurd h
-reload_is_begun o file out out' (Err (stops.Ended causes.NestingLimit)) h = absurd h
-reload_is_begun o file out out' (Err (stops.Ended causes.Read)) h = absurd h
 reload_is_begun o file out out' (Err (stops.Ended (causes.Frozen fault))) h = tt
 reload_is_begun o file out out' (Err (stops.Ended causes.Write)) h = tt
 reload_is_begun o file out out' (Err (stops.Ended causes.OutOfMemory)) h = tt
+reload_is_begun o file out out' (Err (stops.Ended cause)) h = absurd h
 
 pub reload_began : {R : Type 0} (script : R → Option Script) (failures : R → ℕ) (o : Options) (xs ys : Option R) (x y : R)
     (out out' : Option (List ℕ)) (old new : ℕ) (st : Result SessionState Stop) → xs ≡ Some x → ys ≡ Some y
@@ -678,16 +601,11 @@ began_so script failures o xs ys ys' contents fails w0 w w' st st' i j k h =
 end_left : (freezes : Bool) (old new : SessionState) (w : Contents) (e : Stop) → IsOpen old → EndGives freezes old new w (Err e) → IsLeft {A = Bool} new (Err e)
 end_left freezes old new w stops.Finished l h = absurd (h.closed l)
 end_left freezes old new w (stops.Ended causes.Done) l h = absurd h
-end_left freezes old new w (stops.Ended (causes.Exited n)) l h = h.1
-end_left freezes old new w (stops.Ended causes.EndInString) l h = h.1
-end_left freezes old new w (stops.Ended causes.EndInComment) l h = h.1
-end_left freezes old new w (stops.Ended causes.EndInArguments) l h = h.1
-end_left freezes old new w (stops.Ended causes.ExpansionLimit) l h = h.1
-end_left freezes old new w (stops.Ended causes.NestingLimit) l h = h.1
 end_left freezes old new w (stops.Ended (causes.Frozen f)) l h = absurd h
 end_left freezes old new w (stops.Ended causes.Read) l h = absurd h
 end_left freezes old new w (stops.Ended causes.Write) l h = h.over
 end_left freezes old new w (stops.Ended causes.OutOfMemory) l h = h.over
+end_left freezes old new w (stops.Ended cause) l h = h.1
 
 pub close_left : (freezes : Bool) (old new : SessionState) (w : Three (Option (List ℕ))) (e : Stop)
     (q : Result Unit Stop) (r : Result Bool Stop) → q ≡ Err e → r ≡ Err e → IsOpen old → CloseGives freezes old new w q

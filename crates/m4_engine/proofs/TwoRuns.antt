@@ -9,7 +9,7 @@ use Rattle.m4_engine.specs.declared.options.Options.{Options}
 use Rattle.m4_engine.specs.declared.ending.Cause.{Cause}
 use Rattle.m4_engine.specs.declared.ending.Cause.TheVariants as causes
 use Rattle.m4_engine.specs.declared.ending.Ending.{Ending}
-use Rattle.m4_engine.specs.Expansion.{RunSoFar, Limits, EndReason, Ends, NeedsInput, OutOfBound}
+use Rattle.m4_engine.specs.Expansion.{RunSoFar, Limits, EndReason, Ends}
 use Rattle.m4_engine.specs.File.{Source, Opened, Unopened, Progress, over_of, read_source, after_source}
 use Rattle.m4_engine.specs.File.{after_sources}
 use Rattle.m4_engine.specs.Wraps.{read_saved, next_round, rounds, after_wraps}
@@ -30,18 +30,7 @@ IsCut v = v ≢ Some (Ends causes.Done)
 
 over_cut : (h : EndReason) → IsCut (over_of h)
 over_cut (Ends causes.Done) = λ e. cc
-over_cut (Ends (causes.Exited n)) = λ e. cc
-over_cut (Ends causes.EndInString) = λ e. cc
-over_cut (Ends causes.EndInComment) = λ e. cc
-over_cut (Ends causes.EndInArguments) = λ e. cc
-over_cut (Ends causes.ExpansionLimit) = λ e. cc
-over_cut (Ends causes.NestingLimit) = λ e. cc
-over_cut (Ends (causes.Frozen f)) = λ e. cc
-over_cut (Ends causes.Read) = λ e. cc
-over_cut (Ends causes.Write) = λ e. cc
-over_cut (Ends causes.OutOfMemory) = λ e. cc
-over_cut NeedsInput = λ e. cc
-over_cut OutOfBound = λ e. cc
+over_cut reason = λ e. cc
 
 unless_cut : (o : Option EndReason) (old new : Progress) → IsCut old.over → IsCut new.over → IsCut (unless_over o old new).over
 unless_cut None old new h g = g
@@ -100,17 +89,11 @@ none_saved (x ∷ xs) e = cc
 
 -- what a run whose end is decided gives
 decided : (c : Cause) (r : RunResult) (e : Ending) (w : Contents) → IsDecided c → GivesBy c r e w → WroteAll r e w
-decided causes.Done r e w d h = h
-decided (causes.Exited n) r e w d h = h
-decided causes.EndInString r e w d h = h
-decided causes.EndInComment r e w d h = h
-decided causes.EndInArguments r e w d h = h
-decided causes.ExpansionLimit r e w d h = h
-decided causes.NestingLimit r e w d h = h
 decided (causes.Frozen f) r e w d h = absurd d
 decided causes.Read r e w d h = absurd d
 decided causes.Write r e w d h = absurd d
 decided causes.OutOfMemory r e w d h = absurd d
+decided cause r e w d h = h
 
 both_wrote : (a b c d : Option (List ℕ)) (x y z : List ℕ) → b ≡ with_bytes a x → c ≡ b → d ≡ with_bytes c y → z ≡ x ++ y → d ≡ with_bytes a z
 both_wrote a b c d x y z e f g h =

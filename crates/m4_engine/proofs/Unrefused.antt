@@ -195,17 +195,8 @@ is_refused None = false
 is_refused (Some reason) = is_refusal reason
 
 over_unrefused : (h : EndReason) → is_refusal h ≡ false → is_refused (over_of h) ≡ false
-over_unrefused (Ends causes.Done) e = refl
-over_unrefused (Ends (causes.Exited n)) e = refl
-over_unrefused (Ends causes.EndInString) e = refl
-over_unrefused (Ends causes.EndInComment) e = refl
-over_unrefused (Ends causes.EndInArguments) e = refl
-over_unrefused (Ends causes.ExpansionLimit) e = refl
-over_unrefused (Ends causes.NestingLimit) e = refl
 over_unrefused (Ends (causes.Frozen f)) e = e
-over_unrefused (Ends causes.Read) e = refl
-over_unrefused (Ends causes.Write) e = refl
-over_unrefused (Ends causes.OutOfMemory) e = refl
+over_unrefused (Ends cause) e = refl
 over_unrefused NeedsInput e = refl
 over_unrefused OutOfBound e = refl
 

@@ -63,16 +63,7 @@ none_saved (s ∷ ss) p h e = ap (λ (o : Option EndReason). saved_unless_over o
 
 none_wrapped : (c : Cause) → false ≡ wrapped_by c []
 none_wrapped causes.Done = refl
-none_wrapped (causes.Exited n) = refl
-none_wrapped causes.EndInString = refl
-none_wrapped causes.EndInComment = refl
-none_wrapped causes.EndInArguments = refl
-none_wrapped causes.ExpansionLimit = refl
-none_wrapped causes.NestingLimit = refl
-none_wrapped (causes.Frozen f) = refl
-none_wrapped causes.Read = refl
-none_wrapped causes.Write = refl
-none_wrapped causes.OutOfMemory = refl
+none_wrapped cause = refl
 
 -- the status of a session that is over
 over_status : (new : SessionState) (cause : Cause) (any_missing : Bool) → new.over ≡ Some cause
@@ -105,13 +96,8 @@ ended_early freezes ss p old new w (stops.Ended causes.Read) h = broke_short fre
 ended_early freezes ss p old new w (stops.Ended causes.Write) h = broke_short freezes old.limits ss p new w causes.Write _ refl h
 ended_early freezes ss p old new w (stops.Ended causes.OutOfMemory) h = broke_short freezes old.limits ss p new w causes.OutOfMemory _ refl h
 ended_early freezes ss p old new w (stops.Ended causes.Done) h = absurd h
-ended_early freezes ss p old new w (stops.Ended (causes.Exited n)) h = over_there freezes ss p old new w (causes.Exited n) h.0 h.1
-ended_early freezes ss p old new w (stops.Ended causes.EndInString) h = over_there freezes ss p old new w causes.EndInString h.0 h.1
-ended_early freezes ss p old new w (stops.Ended causes.EndInComment) h = over_there freezes ss p old new w causes.EndInComment h.0 h.1
-ended_early freezes ss p old new w (stops.Ended causes.EndInArguments) h = over_there freezes ss p old new w causes.EndInArguments h.0 h.1
-ended_early freezes ss p old new w (stops.Ended causes.ExpansionLimit) h = over_there freezes ss p old new w causes.ExpansionLimit h.0 h.1
-ended_early freezes ss p old new w (stops.Ended causes.NestingLimit) h = over_there freezes ss p old new w causes.NestingLimit h.0 h.1
 ended_early freezes ss p old new w (stops.Ended (causes.Frozen f)) h = absurd h
+ended_early freezes ss p old new w (stops.Ended cause) h = over_there freezes ss p old new w cause h.0 h.1
 
 -- saved texts open no source
 round_missed : (go : Progress → Progress) (limits : Limits) → ((q : Progress) → (go q).any_missing ≡ q.any_missing)
@@ -238,13 +224,8 @@ module _ (freezes : Bool) (limits : Limits) (ss : List Source) (p : Progress) (o
   ended_late (stops.Ended causes.Read) o h = absurd h
   ended_late (stops.Ended causes.Write) o h = broke_end causes.Write _ refl h
   ended_late (stops.Ended causes.OutOfMemory) o h = broke_end causes.OutOfMemory _ refl h
-  ended_late (stops.Ended (causes.Exited n)) o h = over_end (causes.Exited n) refl h.0 h.1
-  ended_late (stops.Ended causes.EndInString) o h = over_end causes.EndInString refl h.0 h.1
-  ended_late (stops.Ended causes.EndInComment) o h = over_end causes.EndInComment refl h.0 h.1
-  ended_late (stops.Ended causes.EndInArguments) o h = over_end causes.EndInArguments refl h.0 h.1
-  ended_late (stops.Ended causes.ExpansionLimit) o h = over_end causes.ExpansionLimit refl h.0 h.1
-  ended_late (stops.Ended causes.NestingLimit) o h = over_end causes.NestingLimit refl h.0 h.1
   ended_late (stops.Ended (causes.Frozen x)) o h = absurd h
+  ended_late (stops.Ended cause) o h = over_end cause refl h.0 h.1
 
   -- what the writer of the frozen text has
   frozen_is : freezes ≡ true → B.over ≡ None → (result_after freezes limits ss p).frozen ≡ Some (freeze (B.so_far).state)
@@ -305,31 +286,15 @@ module _ (freezes : Bool) (limits : Limits) (ss : List Source) (p : Progress) (o
         → FrozenBy (ending_by (status_at new) (Err e)).cause (result_after freezes limits ss p) WholeThree
     frozen_late t stops.Finished h o k = absurd (k.closed o)
     frozen_late t (stops.Ended causes.Done) h o k = absurd k
-    frozen_late t (stops.Ended causes.Read) h o k = h
     frozen_late t (stops.Ended causes.Write) h o k = frozen_began t h
-    frozen_late t (stops.Ended causes.OutOfMemory) h o k = h
-    frozen_late t (stops.Ended (causes.Exited n)) h o k = h
-    frozen_late t (stops.Ended causes.EndInString) h o k = h
-    frozen_late t (stops.Ended causes.EndInComment) h o k = h
-    frozen_late t (stops.Ended causes.EndInArguments) h o k = h
-    frozen_late t (stops.Ended causes.ExpansionLimit) h o k = h
-    frozen_late t (stops.Ended causes.NestingLimit) h o k = h
-    frozen_late t (stops.Ended (causes.Frozen x)) h o k = h
+    frozen_late t (stops.Ended cause) h o k = h
 
     spared_late : (e : Stop) → IsSpared WholeThree → IsOpen mid → EndGives freezes mid new V (Err e)
         → FrozenBy (ending_by (status_at new) (Err e)).cause (result_after freezes limits ss p) WholeThree
     spared_late stops.Finished h o k = absurd (k.closed o)
     spared_late (stops.Ended causes.Done) h o k = absurd k
-    spared_late (stops.Ended causes.Read) h o k = h
     spared_late (stops.Ended causes.Write) h o k = inl h
-    spared_late (stops.Ended causes.OutOfMemory) h o k = h
-    spared_late (stops.Ended (causes.Exited n)) h o k = h
-    spared_late (stops.Ended causes.EndInString) h o k = h
-    spared_late (stops.Ended causes.EndInComment) h o k = h
-    spared_late (stops.Ended causes.EndInArguments) h o k = h
-    spared_late (stops.Ended causes.ExpansionLimit) h o k = h
-    spared_late (stops.Ended causes.NestingLimit) h o k = h
-    spared_late (stops.Ended (causes.Frozen x)) h o k = h
+    spared_late (stops.Ended cause) h o k = h
 
     -- the end by its answer
     late_by : (b : Bool) → b ≡ freezes → (e : Stop) → IsOpen mid → CloseGives b mid new LaterThree (Err e)
@@ -364,16 +329,8 @@ spared_early : (c : RunResult) (status : ℕ) (e : Stop) (w : Three (Option (Lis
     → IsLeft {A = Unit} new (Err e) → IsSpared w → FrozenBy (ending_by status (Err e)).cause c w
 spared_early c status stops.Finished w new l h = absurd l
 spared_early c status (stops.Ended causes.Done) w new l h = absurd l
-spared_early c status (stops.Ended causes.Read) w new l h = h
 spared_early c status (stops.Ended causes.Write) w new l h = inl h
-spared_early c status (stops.Ended causes.OutOfMemory) w new l h = h
-spared_early c status (stops.Ended (causes.Exited n)) w new l h = h
-spared_early c status (stops.Ended causes.EndInString) w new l h = h
-spared_early c status (stops.Ended causes.EndInComment) w new l h = h
-spared_early c status (stops.Ended causes.EndInArguments) w new l h = h
-spared_early c status (stops.Ended causes.ExpansionLimit) w new l h = h
-spared_early c status (stops.Ended causes.NestingLimit) w new l h = h
-spared_early c status (stops.Ended (causes.Frozen x)) w new l h = h
+spared_early c status (stops.Ended cause) w new l h = h
 
 pub early_so : (freezes : Bool) (ss : List Source) (p : Progress) (old new : SessionState)
     (w : Three (Option (List ℕ))) (e : Stop) (q : Result Unit Stop) (r : Result Bool Stop) → q ≡ Err e → r ≡ Err e
@@ -455,29 +412,13 @@ sized_so freezes limits ss p old mid new out0 out1 out2 reported0 reported1 repo
 -- a session that is over isn't at its end
 not_done : (new : SessionState) (cause : Cause) → IsLeft {A = Bool} new (Err (stops.Ended cause)) → cause ≡ causes.Done → ⊥
 not_done new causes.Done l h = l
-not_done new (causes.Exited n) l h = cc
-not_done new causes.EndInString l h = cc
-not_done new causes.EndInComment l h = cc
-not_done new causes.EndInArguments l h = cc
-not_done new causes.ExpansionLimit l h = cc
-not_done new causes.NestingLimit l h = cc
 not_done new (causes.Frozen f) l h = l
-not_done new causes.Read l h = cc
-not_done new causes.Write l h = cc
-not_done new causes.OutOfMemory l h = cc
+not_done new cause l h = cc
 
 pub left_over : (new : SessionState) (cause : Cause) → IsLeft {A = Bool} new (Err (stops.Ended cause)) → new.over ≡ Some cause
 left_over new causes.Done l = absurd l
-left_over new (causes.Exited n) l = l
-left_over new causes.EndInString l = l
-left_over new causes.EndInComment l = l
-left_over new causes.EndInArguments l = l
-left_over new causes.ExpansionLimit l = l
-left_over new causes.NestingLimit l = l
 left_over new (causes.Frozen f) l = absurd l
-left_over new causes.Read l = l
-left_over new causes.Write l = l
-left_over new causes.OutOfMemory l = l
+left_over new cause l = l
 
 -- the status by the cause, and by the sources where all was read
 abbrev pub StatusIs : Bool → Ending → Type 0

@@ -276,12 +276,7 @@ module _ (freezes : Bool) (old mid new : SessionState)
   end_then (Err (stops.Ended causes.Read)) k = k
   end_then (Err (stops.Ended causes.Write)) k = unfinished_then causes.Write k
   end_then (Err (stops.Ended causes.OutOfMemory)) k = unfinished_then causes.OutOfMemory k
-  end_then (Err (stops.Ended (causes.Exited n))) k = (filed_then k.0, k.1)
-  end_then (Err (stops.Ended causes.EndInString)) k = (filed_then k.0, k.1)
-  end_then (Err (stops.Ended causes.EndInComment)) k = (filed_then k.0, k.1)
-  end_then (Err (stops.Ended causes.EndInArguments)) k = (filed_then k.0, k.1)
-  end_then (Err (stops.Ended causes.ExpansionLimit)) k = (filed_then k.0, k.1)
-  end_then (Err (stops.Ended causes.NestingLimit)) k = (filed_then k.0, k.1)
+  end_then (Err (stops.Ended cause)) k = (filed_then k.0, k.1)
 
   -- what the writer of the frozen text has
   state_is : last_state mid ≡ last_state old
@@ -303,19 +298,9 @@ module _ (freezes : Bool) (old mid new : SessionState)
 
   frozen_then : (frozen frozen' : Option (List ℕ)) (r : Result Unit Stop) → FrozenGives mid (later frozen frozen') r → FrozenGives old (all_of frozen frozen') r
   frozen_then frozen frozen' (Ok done) k = (k.0 ∙ ap (λ s. with_bytes frozen (freeze s)) state_is, subst IsSized state_is k.1)
-  frozen_then frozen frozen' (Err stops.Finished) k = k
   frozen_then frozen frozen' (Err (stops.Ended causes.Write)) (inl k) = inl k
   frozen_then frozen frozen' (Err (stops.Ended causes.Write)) (inr k) = inr (began_then frozen frozen' k)
-  frozen_then frozen frozen' (Err (stops.Ended causes.Done)) k = k
-  frozen_then frozen frozen' (Err (stops.Ended (causes.Frozen x))) k = k
-  frozen_then frozen frozen' (Err (stops.Ended causes.Read)) k = k
-  frozen_then frozen frozen' (Err (stops.Ended causes.OutOfMemory)) k = k
-  frozen_then frozen frozen' (Err (stops.Ended (causes.Exited n))) k = k
-  frozen_then frozen frozen' (Err (stops.Ended causes.EndInString)) k = k
-  frozen_then frozen frozen' (Err (stops.Ended causes.EndInComment)) k = k
-  frozen_then frozen frozen' (Err (stops.Ended causes.EndInArguments)) k = k
-  frozen_then frozen frozen' (Err (stops.Ended causes.ExpansionLimit)) k = k
-  frozen_then frozen frozen' (Err (stops.Ended causes.NestingLimit)) k = k
+  frozen_then frozen frozen' (Err stop) k = k
 
 -- a run's end that freezes, after the saved texts
 pub freeze_then : (old mid new : SessionState)
@@ -392,33 +377,17 @@ saved_broke freezes old new w cause l h =
 pub saved_ends : (freezes : Bool) (old new : SessionState) (w : Contents) (e : Stop) → IsOpen old
     → WrapsGive (session_after_wraps old) old new w (Err e) → EndGives freezes old new w (Err e)
 saved_ends freezes old new w stops.Finished l h = absurd h.0
-saved_ends freezes old new w (stops.Ended causes.Done) l h = h.0
-saved_ends freezes old new w (stops.Ended (causes.Frozen x)) l h = h.0
 saved_ends freezes old new w (stops.Ended causes.Read) l h = h.1
 saved_ends freezes old new w (stops.Ended causes.Write) l h = saved_broke freezes old new w causes.Write l h.0
 saved_ends freezes old new w (stops.Ended causes.OutOfMemory) l h = saved_broke freezes old new w causes.OutOfMemory l h.0
-saved_ends freezes old new w (stops.Ended (causes.Exited n)) l h = h.0
-saved_ends freezes old new w (stops.Ended causes.EndInString) l h = h.0
-saved_ends freezes old new w (stops.Ended causes.EndInComment) l h = h.0
-saved_ends freezes old new w (stops.Ended causes.EndInArguments) l h = h.0
-saved_ends freezes old new w (stops.Ended causes.ExpansionLimit) l h = h.0
-saved_ends freezes old new w (stops.Ended causes.NestingLimit) l h = h.0
+saved_ends freezes old new w (stops.Ended cause) l h = h.0
 
 -- then nothing is frozen
 spared : (s : SessionState) (two : Contents) (frozen : Option (List ℕ)) (e : Stop)
     → FrozenGives s (record { two = two; frozen_old = frozen; frozen_new = frozen }) (Err e)
 spared s two frozen stops.Finished = refl
-spared s two frozen (stops.Ended causes.Done) = refl
-spared s two frozen (stops.Ended (causes.Frozen x)) = refl
-spared s two frozen (stops.Ended causes.Read) = refl
 spared s two frozen (stops.Ended causes.Write) = inl refl
-spared s two frozen (stops.Ended causes.OutOfMemory) = refl
-spared s two frozen (stops.Ended (causes.Exited n)) = refl
-spared s two frozen (stops.Ended causes.EndInString) = refl
-spared s two frozen (stops.Ended causes.EndInComment) = refl
-spared s two frozen (stops.Ended causes.EndInArguments) = refl
-spared s two frozen (stops.Ended causes.ExpansionLimit) = refl
-spared s two frozen (stops.Ended causes.NestingLimit) = refl
+spared s two frozen (stops.Ended cause) = refl
 
 pub finish_stops : (old new : SessionState) (w : Contents) (e : Stop) (q r : Result Unit Stop) → q ≡ Err e → r ≡ Err e
     → IsOpen old → WrapsGive (session_after_wraps old) old new w q → FinishGives old new w r

@@ -8,14 +8,5 @@ use Rattle.m4_tool.specs.LineRun.{refused_line}
 -- no line of a frozen file, where none was refused
 pub refused_line-none : (file : List ℕ) (cause : Cause) → ((fault : FrozenFault) → cause ≡ causes.Frozen fault → ⊥)
     → refused_line file cause ≡ []
-refused_line-none file causes.Done other = refl
-refused_line-none file (causes.Exited code) other = refl
-refused_line-none file causes.EndInString other = refl
-refused_line-none file causes.EndInComment other = refl
-refused_line-none file causes.EndInArguments other = refl
-refused_line-none file causes.ExpansionLimit other = refl
-refused_line-none file causes.NestingLimit other = refl
 refused_line-none file (causes.Frozen fault) other = absurd (other fault refl)
-refused_line-none file causes.Read other = refl
-refused_line-none file causes.Write other = refl
-refused_line-none file causes.OutOfMemory other = refl
+refused_line-none file cause other = refl

@@ -67,13 +67,7 @@ wrote_all causes.Read true r e w n g = absurd cc
 wrote_all causes.Write true r e w n g = absurd cc
 wrote_all causes.OutOfMemory true r e w n g = absurd cc
 wrote_all (causes.Frozen f) true r e w n g = frozen_all f.kind r e w n g
-wrote_all causes.Done true r e w n g = g
-wrote_all (causes.Exited code) true r e w n g = g
-wrote_all causes.EndInString true r e w n g = g
-wrote_all causes.EndInComment true r e w n g = g
-wrote_all causes.EndInArguments true r e w n g = g
-wrote_all causes.ExpansionLimit true r e w n g = g
-wrote_all causes.NestingLimit true r e w n g = g
+wrote_all cause true r e w n g = g
 wrote_all (causes.Frozen f) false r e w n g = absurd cc
 wrote_all c false r e w n g = absurd cc
 
@@ -129,13 +123,7 @@ files_all causes.Done name r w old new e f n h = h
 files_all causes.Write name r w old new e f n h = absurd cc
 files_all causes.Read name r w old new e f n h = absurd cc
 files_all causes.OutOfMemory name r w old new e f n h = absurd cc
-files_all (causes.Exited code) name r w old new e f n h = kept_made name r.frozen old new (not_done (causes.Exited code) r refl e f) h
-files_all causes.EndInString name r w old new e f n h = kept_made name r.frozen old new (not_done causes.EndInString r refl e f) h
-files_all causes.EndInComment name r w old new e f n h = kept_made name r.frozen old new (not_done causes.EndInComment r refl e f) h
-files_all causes.EndInArguments name r w old new e f n h = kept_made name r.frozen old new (not_done causes.EndInArguments r refl e f) h
-files_all causes.ExpansionLimit name r w old new e f n h = kept_made name r.frozen old new (not_done causes.ExpansionLimit r refl e f) h
-files_all causes.NestingLimit name r w old new e f n h = kept_made name r.frozen old new (not_done causes.NestingLimit r refl e f) h
-files_all (causes.Frozen fault) name r w old new e f n h = kept_made name r.frozen old new (not_done (causes.Frozen fault) r refl e f) h
+files_all cause name r w old new e f n h = kept_made name r.frozen old new (not_done cause r refl e f) h
 
 unfailed : (c : Cause) (b : Bool) → failure_of c b ≡ None → failure_by c ≡ None
 unfailed causes.Read true n = absurd cc
@@ -292,16 +280,7 @@ broke_off name file r c b f s x m o0 o1 o2 m0 m1 m2 f0 f1 f2 w0 w1 w2 status n d
 -- a flush and the end of a run don't fail as a report does
 no_report_by : (c : Cause) → failure_by c ≡ Some failures.Report → ⊥
 no_report_by causes.Read e = absurd cc
-no_report_by causes.Write e = absurd cc
-no_report_by causes.OutOfMemory e = absurd cc
-no_report_by (causes.Frozen f) e = absurd cc
-no_report_by causes.Done e = absurd cc
-no_report_by (causes.Exited code) e = absurd cc
-no_report_by causes.EndInString e = absurd cc
-no_report_by causes.EndInComment e = absurd cc
-no_report_by causes.EndInArguments e = absurd cc
-no_report_by causes.ExpansionLimit e = absurd cc
-no_report_by causes.NestingLimit e = absurd cc
+no_report_by cause e = absurd cc
 
 no_report_frozen : (k : FrozenKind) → frozen_failure k ≡ Some failures.Report → ⊥
 no_report_frozen kinds.OutOfMemory e = absurd cc

@@ -190,16 +190,7 @@ not_limit reason cause e n k = n (ap cause_in (sym e ∙ k))
 
 no_lines : (file : List ℕ) (reason : EndReason) → is_refusal reason ≡ false → refusals_by file reason ≡ []
 no_lines file (Ends (causes.Frozen fault)) e = absurd cc
-no_lines file (Ends causes.Done) e = refl
-no_lines file (Ends (causes.Exited code)) e = refl
-no_lines file (Ends causes.EndInString) e = refl
-no_lines file (Ends causes.EndInComment) e = refl
-no_lines file (Ends causes.EndInArguments) e = refl
-no_lines file (Ends causes.ExpansionLimit) e = refl
-no_lines file (Ends causes.NestingLimit) e = refl
-no_lines file (Ends causes.Read) e = refl
-no_lines file (Ends causes.Write) e = refl
-no_lines file (Ends causes.OutOfMemory) e = refl
+no_lines file (Ends cause) e = refl
 no_lines file NeedsInput e = refl
 no_lines file OutOfBound e = refl
 
