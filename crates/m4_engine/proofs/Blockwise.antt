@@ -27,6 +27,7 @@ use Rattle.m4_engine.specs.Continued.{comes_to, stands, Leads, Marked, IsMarked,
 use Rattle.m4_engine.specs.Continued.{HandBreaks, HandGives, HasMade, BreaksInOrder, OrderBy, so_far_in, fault_cause}
 use Rattle.m4_engine.specs.ReadsOn.{IsWantedAfter, HasReadOn, HasStopped, ReadsOn}
 use Rattle.m4_engine.specs.Writers.{Contents, Failures, NoneFailed, FailsBy, writers, Broken, HasWritten}
+use Rattle.m4_engine.proofs.BrokenOff.{broken_map}
 use Rattle.m4_engine.proofs.ReadingOn.{stays_open}
 use Rattle.m4_engine.proofs.Leading.{leads_then, leads_nowhere, leads_same}
 use Rattle.m4_engine.proofs.Marks.{mark_here, mark_then}
@@ -502,11 +503,8 @@ told_by_cause : (e0 e : Engine) (p0 : Pending) (i : Held) (before after : Option
     → Taking e0 p0 before after out0 reported0 w e i out reported
     → OrderBy w e i.pending (writers out out' reported reported') (Err cause)
     → StepBreaksBy e0 p0 before after (writers out0 out' reported0 reported') cause
-told_by_cause e0 e p0 i before after out0 reported0 out reported out' reported' w causes.Write d t h =
-    told_in_hand e0 e p0 i before after out0 reported0 out reported out' reported' w d t h
-told_by_cause e0 e p0 i before after out0 reported0 out reported out' reported' w causes.OutOfMemory d t h =
-    told_in_hand e0 e p0 i before after out0 reported0 out reported out' reported' w d t h
-told_by_cause e0 e p0 i before after out0 reported0 out reported out' reported' w cause d t h = tt
+told_by_cause e0 e p0 i before after out0 reported0 out reported out' reported' w cause d t h =
+    broken_map cause _ _ (told_in_hand e0 e p0 i before after out0 reported0 out reported out' reported' w d t) h
 
 pub told_so : (e0 e : Engine) (p0 : Pending) (i : Held) (before after : Option Script)
     (out0 reported0 out reported out' reported' : Option (List ℕ)) (w : Wanted) (cause : Cause) (r : Result Wanted Cause)

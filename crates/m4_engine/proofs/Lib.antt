@@ -43,6 +43,7 @@ pub mod Turning
 pub mod LoopKeeps
 pub mod Moments
 pub mod Begins
+pub mod BrokenOff
 pub mod PlainRuns
 pub mod TextBytes
 pub mod ListRuns

@@ -32,6 +32,7 @@ use Rattle.m4_engine.specs.RunSteps.{BeginGives}
 use Rattle.m4_engine.specs.Writers.{Contents, writers}
 use Rattle.m4_engine.specs.Expands.{StepBreaks, StepBreaksBy, progress_before}
 use Rattle.m4_engine.proofs.Begins.{nothing_begun}
+use Rattle.m4_engine.proofs.BrokenOff.{if_broken, broken_map}
 use Rattle.m4_engine.proofs.GoingOn.{written_after, sources_after, wraps_after}
 use Rattle.m4_engine.proofs.Sessions.{closed_rest, taken_file, may_end, session_of}
 use Rattle.m4_engine.proofs.Sources.{described_suit, Suits, so_of, unopened_is, none_taken}
@@ -43,15 +44,13 @@ use Rattle.m4_engine.proofs.Cases.{DescribesSource}
 
 -- so of each answer
 pub any_breaks : {A : Type 0} (r : Result A Stop) (P : Type 0) → P → BreaksBy r P
-any_breaks (Err (stops.Ended causes.Write)) P h = h
-any_breaks (Err (stops.Ended causes.OutOfMemory)) P h = h
+any_breaks (Err (stops.Ended cause)) P h = if_broken cause P h
 any_breaks r P h = tt
 
 -- the same stop of another call
 stop_breaks : (A B : Type 0) (e : Stop) (P Q : Type 0) → (P → Q) → BreaksBy {A = A} (Err e) P → BreaksBy {A = B} (Err e) Q
-stop_breaks A B (stops.Ended causes.Write) P Q f h = f h
-stop_breaks A B (stops.Ended causes.OutOfMemory) P Q f h = f h
-stop_breaks A B e P Q f h = tt
+stop_breaks A B (stops.Ended cause) P Q f h = broken_map cause P Q f h
+stop_breaks A B stops.Finished P Q f h = tt
 
 pub same_breaks : (A B : Type 0) (e : Stop) (q : Result A Stop) (r : Result B Stop) (P Q : Type 0) → q ≡ Err e
     → r ≡ Err e → (P → Q) → BreaksBy q P → BreaksBy r Q
@@ -60,9 +59,8 @@ same_breaks A B e q r P Q i j f h =
 
 told_answer : (e : Engine) (p : Pending) (before after : Option Script) (w : Contents) (P : Type 0) (cause : Cause)
     → (StepBreaks e p before after w → P) → StepBreaksBy e p before after w cause → BreaksBy (answer_by cause) P
-told_answer e p before after w P causes.Write f h = f h
-told_answer e p before after w P causes.OutOfMemory f h = f h
-told_answer e p before after w P cause f h = tt
+told_answer e p before after w P causes.Done f h = tt
+told_answer e p before after w P cause f h = broken_map cause (StepBreaks e p before after w) P f h
 
 -- ---- a call in which nothing was written
 
@@ -282,9 +280,8 @@ opened_told script old name before later first after w r s f b t h =
     by_answer r (so_of name (script before) (script later) s (λ x. Unit) (λ s. Breaks (IsStepOf old.limits s) (progress_of old) w) u) h
   where
     by_answer : {P Q : Type 0} (r : Result Unit Stop) → (P → Q) → BreaksBy r P → BreaksBy r Q
-    by_answer (Err (stops.Ended causes.Write)) f h = f h
-    by_answer (Err (stops.Ended causes.OutOfMemory)) f h = f h
-    by_answer r f h = tt
+    by_answer (Ok done) f h = tt
+    by_answer (Err e) f h = stop_breaks Unit Unit e _ _ f h
 
 -- one whose name could not be held
 pub unread_told : {R : Type 0} (script : R → Option Script) (old : SessionState) (name : List ℕ) (reader : R)
@@ -367,8 +364,7 @@ start_told o start ss s out0 out1 out2 reported0 reported1 b h =
 ended_told : (o : Options) (start : Start) (ss : List Source) (w : Contents) (P : Type 0) (status : ℕ)
     (r : Result Bool Stop) → (P → InOrder (limits_of o) ss (begun start) w) → BreaksBy r P
     → InOrderBy (ending_by status r).cause o start ss w
-ended_told o start ss w P status (Err (stops.Ended causes.Write)) f h = f h
-ended_told o start ss w P status (Err (stops.Ended causes.OutOfMemory)) f h = f h
+ended_told o start ss w P status (Err (stops.Ended cause)) f h = broken_map cause P (InOrder (limits_of o) ss (begun start) w) f h
 ended_told o start ss w P status r f h = tt
 
 pub run_told : (o : Options) (start : Start) (ss : List Source) (s : SessionState) (st : Result SessionState Stop)

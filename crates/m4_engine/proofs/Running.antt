@@ -33,6 +33,7 @@ use Rattle.m4_engine.specs.Continued.{IsFlushed, HandNeeds, HandEnds, HandBreaks
 use Rattle.m4_engine.specs.Continued.{GivesOut}
 use Rattle.m4_engine.specs.Writers.{Contents, writers, HasWritten, ByCause, FailsBy}
 use Rattle.m4_engine.proofs.Begins.{all_begun}
+use Rattle.m4_engine.proofs.BrokenOff.{if_broken}
 use Rattle.m4_engine.proofs.CallsFall.{falls}
 use Rattle.m4_engine.proofs.Growth.{Extends}
 use Rattle.m4_engine.proofs.Inputs.{none_is_front}
@@ -567,15 +568,10 @@ pub lack_gives_in_order : (w : Wanted) (e0 e e' : Engine) (p0 : Pending) (i : He
     → Running w e0 p0 out0 reported0 e i out reported → e.messages ≡ [] → n ≡ length e.output → KeepsOutput e e'
     → GivesOut (take n e'.output) out out' cause
     → OrderBy w e0 p0 (writers out0 out' reported0 reported) (Err cause)
-lack_gives_in_order w e0 e e' p0 i n out0 reported0 out reported out' cause r q l k g = by (breaks_by _ _ _ _ g)
-  where
-    broken : BreaksInOrder w e0 p0 (writers out0 out' reported0 reported)
-    broken = lack_breaks_in_order w e0 e p0 i out0 reported0 out reported out' r q
-        (begun_by e.output out out' cause (kept_front n e.output e'.output out out' cause l k g))
-
-    by : (cause ≡ causes.OutOfMemory) ⊎ (cause ≡ causes.Write) → OrderBy w e0 p0 (writers out0 out' reported0 reported) (Err cause)
-    by (inl q) = subst (λ (v : Cause). OrderBy w e0 p0 (writers out0 out' reported0 reported) (Err v)) (sym q) broken
-    by (inr q) = subst (λ (v : Cause). OrderBy w e0 p0 (writers out0 out' reported0 reported) (Err v)) (sym q) broken
+lack_gives_in_order w e0 e e' p0 i n out0 reported0 out reported out' cause r q l k g =
+    if_broken cause (BreaksInOrder w e0 p0 (writers out0 out' reported0 reported))
+    (lack_breaks_in_order w e0 e p0 i out0 reported0 out reported out' r q
+    (begun_by e.output out out' cause (kept_front n e.output e'.output out out' cause l k g)))
 
 -- it failed as often as its cause says
 pub lack_counted : (x : List ℕ) (before after : Option (List ℕ)) (cause : Cause) (out0 out out' reported0 reported : ℕ)

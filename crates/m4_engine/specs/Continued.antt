@@ -21,7 +21,7 @@ use Rattle.m4_engine.specs.Expand.{turn, join, expand, skip_line}
 use Rattle.m4_engine.specs.Engine.{Engine, so_far_of, configuration, IsReady}
 use Rattle.m4_engine.specs.Order.{Shows}
 use Rattle.m4_engine.specs.Turns.{MayFollow}
-use Rattle.m4_engine.specs.Writers.{Contents, HasWritten}
+use Rattle.m4_engine.specs.Writers.{Contents, HasWritten, IfBroken}
 
 -- the rest of a line is to be skipped first, or nothing
 abbrev pub skipped_first : Wanted → Expansion → Outcome Expansion Ended
@@ -117,9 +117,8 @@ pub record BreaksInOrder (w : Wanted) (old : Engine) (p : Pending) (c : Contents
 
 -- by the outcome
 abbrev pub OrderBy : Wanted → Engine → Pending → Contents → Result Wanted Cause → Type 0
-OrderBy w old p c (Err causes.Write) = BreaksInOrder w old p c
-OrderBy w old p c (Err causes.OutOfMemory) = BreaksInOrder w old p c
-OrderBy w old p c result = Unit {0}
+OrderBy w old p c (Ok v) = Unit {0}
+OrderBy w old p c (Err cause) = IfBroken cause (BreaksInOrder w old p c)
 
 abbrev pub HandGives : Wanted → Engine → Engine → Held → Held → Contents → Result Wanted Cause → Type 0
 HandGives w old new i j c (Ok v) = HandNeeds w old i v new j c

@@ -17,7 +17,8 @@ use Rattle.m4_engine.specs.Turns.{MayFollow}
 use Rattle.m4_engine.specs.File.{Progress}
 use Rattle.m4_engine.specs.Order.{Breaks, IsBeginning}
 use Rattle.m4_engine.specs.Moments.{IsTurnOf}
-use Rattle.m4_engine.specs.Writers.{Contents, Failures, NoneFailed, OneFailed, Broken, HasWritten, WroteAtLeast}
+use Rattle.m4_engine.specs.Writers.{Contents, Failures, NoneFailed, OneFailed, IfBroken, Broken, HasWritten}
+use Rattle.m4_engine.specs.Writers.{WroteAtLeast}
 
 -- a run so far, if its earlier output and messages were written
 abbrev pub made_before : Engine → RunSoFar
@@ -100,9 +101,7 @@ pub record StepBreaks (old : Engine) (p : Pending) (before after : Option Script
 
 -- by the cause
 abbrev pub StepBreaksBy : Engine → Pending → Option Script → Option Script → Contents → Cause → Type 0
-StepBreaksBy old p before after w causes.Write = StepBreaks old p before after w
-StepBreaksBy old p before after w causes.OutOfMemory = StepBreaks old p before after w
-StepBreaksBy old p before after w cause = Unit {0}
+StepBreaksBy old p before after w cause = IfBroken cause (StepBreaks old p before after w)
 
 -- prefixes of an engine's output and messages were written
 abbrev pub FlushesPrefix : List ℕ → List ℕ → Contents → Type 0

@@ -8,7 +8,6 @@
 use Rattle.std.specs.Prelude.{◌≡◌, ◌≢◌, ◌⊎◌, ℕ, zero, suc, false, List, [], ◌∷◌, ◌++◌, Option, None, Result, Err}
 use Rattle.m4_state.specs.Device.{Script, with_bytes, HasBegun}
 use Rattle.m4_engine.specs.declared.ending.Cause.{Cause}
-use Rattle.m4_engine.specs.declared.ending.Cause.TheVariants as causes
 use Rattle.m4_engine.specs.declared.options.Options.{Options}
 use Rattle.m4_engine.specs.declared.stop.Stop.{Stop}
 use Rattle.m4_engine.specs.declared.stop.Stop.TheVariants as stops
@@ -21,7 +20,7 @@ use Rattle.m4_engine.specs.Wraps.{wrapped_pending, joined_back, read_saved, afte
 use Rattle.m4_engine.specs.Start.{Start, begun}
 use Rattle.m4_engine.specs.Run.{limits_of}
 use Rattle.m4_engine.specs.Session.{FileRead}
-use Rattle.m4_engine.specs.Writers.{Contents, writers, HasWritten}
+use Rattle.m4_engine.specs.Writers.{Contents, writers, HasWritten, IfBroken}
 
 -- y begins with x
 abbrev pub IsBeginning : List ℕ → List ℕ → Type 0
@@ -92,9 +91,7 @@ InOrder limits ss p w =
 
 -- by the cause: a run that a writer or an allocation broke off
 abbrev pub InOrderBy : Cause → Options → Start → List Source → Contents → Type 0
-InOrderBy causes.Write o start ss w = InOrder (limits_of o) ss (begun start) w
-InOrderBy causes.OutOfMemory o start ss w = InOrder (limits_of o) ss (begun start) w
-InOrderBy cause o start ss w = Unit {0}
+InOrderBy cause o start ss w = IfBroken cause (InOrder (limits_of o) ss (begun start) w)
 
 -- a progress, if this output and these messages were made before it
 abbrev pub preceded : List ℕ → List ℕ → Progress → Progress
@@ -112,8 +109,7 @@ Breaks IsStep p w =
 
 -- by the answer: a writer or an allocation broke the call off
 abbrev pub BreaksBy : {A : Type 0} → Result A Stop → Type 0 → Type 0
-BreaksBy (Err (stops.Ended causes.Write)) P = P
-BreaksBy (Err (stops.Ended causes.OutOfMemory)) P = P
+BreaksBy (Err (stops.Ended cause)) P = IfBroken cause P
 BreaksBy result P = Unit {0}
 
 -- the same of a file, of which the reader gave some bytes: whatever follows them

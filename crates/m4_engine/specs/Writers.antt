@@ -1,7 +1,7 @@
 -- Writers: a call's writers before and after it: the bytes of each, and how often it failed.
 -- Believed: each clause on written bytes cites it. Manual: "Invoking m4".
 -- Words: Both, writers, both, Three, three, all_three, Contents, Failures, NoneFailed, OneFailed, NoneOfThree,
--- IsSpared, OneOfThree, ThreeFailBy, Spares, ByCause, FailsBy, Broken, HasWritten, WroteAtLeast.
+-- IsSpared, OneOfThree, ThreeFailBy, Spares, ByCause, IfBroken, FailsBy, Broken, HasWritten, WroteAtLeast.
 use Rattle.std.specs.Prelude.{◌≡◌, ℕ, List, ◌++◌, Option, ◌⊎◌}
 use Rattle.m4_state.specs.Device.{with_bytes, HasBegun, one_more}
 use Rattle.m4_engine.specs.declared.ending.Cause.{Cause}
@@ -50,6 +50,12 @@ OneFailed f =
 abbrev pub ByCause : Cause → Type 0 → Type 0 → Type 0
 ByCause causes.Write none one = one
 ByCause cause none one = none
+
+-- of a run that a writer or an allocation broke off this is so; of another nothing is said
+abbrev pub IfBroken : Cause → Type 0 → Type 0
+IfBroken causes.Write P = P
+IfBroken causes.OutOfMemory P = P
+IfBroken cause P = Unit {0}
 
 -- an expansion ends by a write fault if a writer failed in it
 abbrev pub FailsBy : Cause → Failures → Type 0
