@@ -1,5 +1,5 @@
 -- Running: the state of the loop over the turns of the bytes in hand, and what its ends say.
-use Rattle.std.proofs.Common.{◌≡◌, ◌⊎◌, ◌<◌, ◌≤◌, ℕ, Bool, true, false, List, [], ◌∷◌, ◌++◌, Option, Some, None, refl}
+use Rattle.std.proofs.Common.{◌≡◌, ◌<◌, ◌≤◌, ℕ, Bool, true, false, List, [], ◌∷◌, ◌++◌, Option, Some, None, refl}
 use Rattle.std.proofs.Common.{sym, ap, ◌∙◌, subst, append-nil, append_assoc, arith, length, take, drop, inl, inr}
 use Rattle.std.specs.Prelude.{Err}
 use Rattle.std.proofs.Transfers.{drop-appended}
@@ -538,12 +538,6 @@ begun_by x out out' causes.OutOfMemory g = all_begun out out' x g
 begun_by x out out' causes.Write g = g
 begun_by x out out' cause g = absurd g
 
--- it ends by a fault
-breaks_by : (x : List ℕ) (out out' : Option (List ℕ)) (cause : Cause) → GivesOut x out out' cause → (cause ≡ causes.OutOfMemory) ⊎ (cause ≡ causes.Write)
-breaks_by x out out' causes.OutOfMemory g = inl refl
-breaks_by x out out' causes.Write g = inr refl
-breaks_by x out out' cause g = absurd g
-
 -- what was kept of the buffer is what was buffered before
 kept_front : (n : ℕ) (x all : List ℕ) (out out' : Option (List ℕ)) (cause : Cause) → n ≡ length x → HasFront x all
     → GivesOut (take n all) out out' cause → GivesOut x out out' cause
@@ -554,15 +548,16 @@ pub lack_gives : (w : Wanted) (e0 e e' new : Engine) (i0 i j : Held) (n : ℕ) (
     → Running w e0 i0.pending out0 reported0 e i out reported → n ≡ length e.output → KeepsOutput e e'
     → GivesOut (take n e'.output) out out' cause
     → HandGives w e0 new i0 j (writers out0 out' reported0 reported) (Err cause)
-lack_gives w e0 e e' new i0 i j n out0 reported0 out reported out' cause r l k g = by (breaks_by _ _ _ _ g)
+lack_gives w e0 e e' new i0 i j n out0 reported0 out reported out' cause r l k g = by cause g
   where
     broken : HandBreaks w e0 i0.pending (writers out0 out' reported0 reported)
     broken = breaks w e0 e i0.pending i out0 reported0 out reported out' r
         (begun_by e.output out out' cause (kept_front n e.output e'.output out out' cause l k g))
 
-    by : (cause ≡ causes.OutOfMemory) ⊎ (cause ≡ causes.Write) → HandGives w e0 new i0 j (writers out0 out' reported0 reported) (Err cause)
-    by (inl q) = subst (λ (v : Cause). HandGives w e0 new i0 j (writers out0 out' reported0 reported) (Err v)) (sym q) broken
-    by (inr q) = subst (λ (v : Cause). HandGives w e0 new i0 j (writers out0 out' reported0 reported) (Err v)) (sym q) broken
+    by : (c : Cause) → GivesOut (take n e'.output) out out' c → HandGives w e0 new i0 j (writers out0 out' reported0 reported) (Err c)
+    by causes.OutOfMemory h = broken
+    by causes.Write h = broken
+    by c h = absurd h
 
 pub lack_gives_in_order : (w : Wanted) (e0 e e' : Engine) (p0 : Pending) (i : Held) (n : ℕ) (out0 reported0 out reported out' : Option (List ℕ)) (cause : Cause)
     → Running w e0 p0 out0 reported0 e i out reported → e.messages ≡ [] → n ≡ length e.output → KeepsOutput e e'
@@ -577,13 +572,9 @@ lack_gives_in_order w e0 e e' p0 i n out0 reported0 out reported out' cause r q 
 pub lack_counted : (x : List ℕ) (before after : Option (List ℕ)) (cause : Cause) (out0 out out' reported0 reported : ℕ)
     → GivesOut x before after cause → ByCause cause (out' ≡ out) (out' ≡ one_more out)
     → out ≡ out0 → reported ≡ reported0 → FailsBy cause (writers out0 out' reported0 reported)
-lack_counted x before after cause out0 out out' reported0 reported g k f h = by (breaks_by _ _ _ _ g)
-  where
-    by : (cause ≡ causes.OutOfMemory) ⊎ (cause ≡ causes.Write) → FailsBy cause (writers out0 out' reported0 reported)
-    by (inl q) = subst (λ (v : Cause). FailsBy v (writers out0 out' reported0 reported)) (sym q)
-        (subst (λ (v : Cause). ByCause v (out' ≡ out) (out' ≡ one_more out)) q k ∙ f, h)
-    by (inr q) = subst (λ (v : Cause). FailsBy v (writers out0 out' reported0 reported)) (sym q)
-        (inl (subst (λ (v : Cause). ByCause v (out' ≡ out) (out' ≡ one_more out)) q k ∙ ap one_more f, h))
+lack_counted x before after causes.OutOfMemory out0 out out' reported0 reported g k f h = (k ∙ f, h)
+lack_counted x before after causes.Write out0 out out' reported0 reported g k f h = inl (k ∙ ap one_more f, h)
+lack_counted x before after cause out0 out out' reported0 reported g k f h = absurd g
 
 pub in_order_end : (w : Wanted) (e : Engine) (p : Pending) (c : Contents) (end : TurnEnd) → OrderBy w e p c (Err (cause_of_end end))
 in_order_end w e p c turn_ends.Done = tt
