@@ -105,17 +105,8 @@ module _ (x : List ℕ) (r : RunResult) (out0 out1 out2 reported reported' froze
   }
 
   refused : (k : FrozenKind) (d : Ending) → RefusedBy k r d V.two → RefusedBy k (issuing x r) d W.two
-  refused kinds.NoVersion d h = wrote d h
-  refused kinds.Newer d h = wrote d h
-  refused kinds.VersionZero d h = wrote d h
-  refused kinds.SecondVersion d h = wrote d h
-  refused kinds.UnknownDirective d h = wrote d h
-  refused kinds.DigitExpected d h = wrote d h
-  refused kinds.NumberTooLarge d h = wrote d h
-  refused kinds.SeparatorExpected d h = wrote d h
-  refused kinds.PrematureEnd d h = wrote d h
-  refused kinds.Read d h = wrote d h
   refused kinds.OutOfMemory d h = short d h
+  refused kind d h = wrote d h
 
   gives : (c : Cause) (d : Ending) → GivesBy c r d V.two → GivesBy c (issuing x r) d W.two
   gives (causes.Frozen f) d h = refused f.kind d h
@@ -285,17 +276,8 @@ refused_gives : (k : FrozenKind) (o : Options) (start : Start) (fault : FrozenFa
     → RefusedBy k (run_from o start ss)
     (ending_by (status_after (stops.Ended (causes.Frozen fault))) (Err (stops.Ended (causes.Frozen fault))))
     (writers out out' reported reported)
-refused_gives kinds.NoVersion o start fault ss out out' reported e i h = faulty_wrote o start fault ss out out' reported i (h (λ x. cc))
-refused_gives kinds.Newer o start fault ss out out' reported e i h = faulty_wrote o start fault ss out out' reported i (h (λ x. cc))
-refused_gives kinds.VersionZero o start fault ss out out' reported e i h = faulty_wrote o start fault ss out out' reported i (h (λ x. cc))
-refused_gives kinds.SecondVersion o start fault ss out out' reported e i h = faulty_wrote o start fault ss out out' reported i (h (λ x. cc))
-refused_gives kinds.UnknownDirective o start fault ss out out' reported e i h = faulty_wrote o start fault ss out out' reported i (h (λ x. cc))
-refused_gives kinds.DigitExpected o start fault ss out out' reported e i h = faulty_wrote o start fault ss out out' reported i (h (λ x. cc))
-refused_gives kinds.NumberTooLarge o start fault ss out out' reported e i h = faulty_wrote o start fault ss out out' reported i (h (λ x. cc))
-refused_gives kinds.SeparatorExpected o start fault ss out out' reported e i h = faulty_wrote o start fault ss out out' reported i (h (λ x. cc))
-refused_gives kinds.PrematureEnd o start fault ss out out' reported e i h = faulty_wrote o start fault ss out out' reported i (h (λ x. cc))
-refused_gives kinds.Read o start fault ss out out' reported e i h = faulty_wrote o start fault ss out out' reported i (h (λ x. cc))
 refused_gives kinds.OutOfMemory o start fault ss out out' reported e i h = fell_silent _ _ out out' reported refl i
+refused_gives kind o start fault ss out out' reported e i h = faulty_wrote o start fault ss out out' reported i (h (λ x. cc))
 
 -- a run that did not begin
 never_by : (o : Options) (start : Start) (ss : List Source) (e : Stop) (out out' reported frozen : Option (List ℕ))

@@ -51,16 +51,7 @@ reports-append (x ∷ xs) ys a b c f g h p q = (p.0, p.1, p.2, reports-append xs
 -- a run ended without a failure, and everything was flushed
 frozen_all : (k : FrozenKind) (r : RunResult) (e : Ending) (w : Contents) → frozen_failure k ≡ None → RefusedBy k r e w → WroteAll r e w
 frozen_all kinds.OutOfMemory r e w n g = absurd cc
-frozen_all kinds.NoVersion r e w n g = g
-frozen_all kinds.Newer r e w n g = g
-frozen_all kinds.VersionZero r e w n g = g
-frozen_all kinds.SecondVersion r e w n g = g
-frozen_all kinds.UnknownDirective r e w n g = g
-frozen_all kinds.DigitExpected r e w n g = g
-frozen_all kinds.NumberTooLarge r e w n g = g
-frozen_all kinds.SeparatorExpected r e w n g = g
-frozen_all kinds.PrematureEnd r e w n g = g
-frozen_all kinds.Read r e w n g = g
+frozen_all kind r e w n g = g
 
 pub wrote_all : (c : Cause) (b : Bool) (r : RunResult) (e : Ending) (w : Contents) → failure_of c b ≡ None → GivesBy c r e w → WroteAll r e w
 wrote_all causes.Read true r e w n g = absurd cc
@@ -189,10 +180,7 @@ FilesIn failure name r w old new = new ≡ old
 files_fail : (f : Failure) (c : Cause) (b : Bool) (name : List ℕ) (r : RunResult) (e : Ending) (w : Contents) (old new : Option Files)
     → failure_of c b ≡ Some f → GivesBy c r e w → RanFiles c name r w old new → FilesIn f name r w old new
 files_fail failures.Write c b name r e w old new n g h = some_files c name r e w old new g h
-files_fail failures.Read c b name r e w old new n g h = kept_files c b failures.Read name r w old new n (λ k. cc) h
-files_fail failures.Report c b name r e w old new n g h = kept_files c b failures.Report name r w old new n (λ k. cc) h
-files_fail failures.Load c b name r e w old new n g h = kept_files c b failures.Load name r w old new n (λ k. cc) h
-files_fail failures.OutOfMemory c b name r e w old new n g h = kept_files c b failures.OutOfMemory name r w old new n (λ k. cc) h
+files_fail failure c b name r e w old new n g h = kept_files c b failure name r w old new n (λ k. cc) h
 
 counted_some : (c : Cause) (f g : ℕ) → CountedBy c f g → Grew f g
 counted_some causes.Write f g (inl h) = grew_none f g h
@@ -284,16 +272,7 @@ no_report_by cause e = absurd cc
 
 no_report_frozen : (k : FrozenKind) → frozen_failure k ≡ Some failures.Report → ⊥
 no_report_frozen kinds.OutOfMemory e = absurd cc
-no_report_frozen kinds.NoVersion e = absurd cc
-no_report_frozen kinds.Newer e = absurd cc
-no_report_frozen kinds.VersionZero e = absurd cc
-no_report_frozen kinds.SecondVersion e = absurd cc
-no_report_frozen kinds.UnknownDirective e = absurd cc
-no_report_frozen kinds.DigitExpected e = absurd cc
-no_report_frozen kinds.NumberTooLarge e = absurd cc
-no_report_frozen kinds.SeparatorExpected e = absurd cc
-no_report_frozen kinds.PrematureEnd e = absurd cc
-no_report_frozen kinds.Read e = absurd cc
+no_report_frozen kind e = absurd cc
 
 or_write : (o : Option Failure) → (o ≡ Some failures.Report → ⊥) → Some (unwrap_or o failures.Write) ≡ Some failures.Report → ⊥
 or_write None h e = absurd cc
@@ -317,17 +296,8 @@ ends_by None name file r c b s x m o0 o1 o2 m0 m1 m2 f0 f1 f2 w0 w1 w2 status z 
     (wrote_all c b r (record { status = s; cause = c; wrapped = x }) (writers o0 o1 m0 m1) (sym n) g) k h l o p q
 ends_by (Some failures.Report) name file r c b s x m o0 o1 o2 m0 m1 m2 f0 f1 f2 w0 w1 w2 status z n g k t h l o p q =
     absurd (no_report c b (sym n))
-ends_by (Some failures.Read) name file r c b s x m o0 o1 o2 m0 m1 m2 f0 f1 f2 w0 w1 w2 status z n g k t h l o p q =
-    broke_off name file r c b failures.Read s x m o0 o1 o2 m0 m1 m2 f0 f1 f2 w0 w1 w2 status (sym n)
-    (refuses_as file c r s x (writers o0 o1 m0 m1) g) g k t h l o p q
-ends_by (Some failures.Write) name file r c b s x m o0 o1 o2 m0 m1 m2 f0 f1 f2 w0 w1 w2 status z n g k t h l o p q =
-    broke_off name file r c b failures.Write s x m o0 o1 o2 m0 m1 m2 f0 f1 f2 w0 w1 w2 status (sym n)
-    (refuses_as file c r s x (writers o0 o1 m0 m1) g) g k t h l o p q
-ends_by (Some failures.OutOfMemory) name file r c b s x m o0 o1 o2 m0 m1 m2 f0 f1 f2 w0 w1 w2 status z n g k t h l o p q =
-    broke_off name file r c b failures.OutOfMemory s x m o0 o1 o2 m0 m1 m2 f0 f1 f2 w0 w1 w2 status (sym n)
-    (refuses_as file c r s x (writers o0 o1 m0 m1) g) g k t h l o p q
-ends_by (Some failures.Load) name file r c b s x m o0 o1 o2 m0 m1 m2 f0 f1 f2 w0 w1 w2 status z n g k t h l o p q =
-    broke_off name file r c b failures.Load s x m o0 o1 o2 m0 m1 m2 f0 f1 f2 w0 w1 w2 status (sym n)
+ends_by (Some failure) name file r c b s x m o0 o1 o2 m0 m1 m2 f0 f1 f2 w0 w1 w2 status z n g k t h l o p q =
+    broke_off name file r c b failure s x m o0 o1 o2 m0 m1 m2 f0 f1 f2 w0 w1 w2 status (sym n)
     (refuses_as file c r s x (writers o0 o1 m0 m1) g) g k t h l o p q
 
 -- the same if a line for a refused file could not be written
@@ -365,11 +335,9 @@ some_refused cause fault file is = subst (λ (c : Cause). refusals file c ≢ []
 -- the line of a failure that has one
 pub line_reported : (failure : Failure) (old new : Option (List ℕ)) (f g : ℕ) → (length (failure_line failure) == 0) ≡ false
     → Reports (failure_line failure ∷ []) old new f g → Reports (failure_lines (Some failure)) old new f g
-line_reported failures.Read old new f g e p = p
-line_reported failures.Write old new f g e p = p
-line_reported failures.OutOfMemory old new f g e p = p
 line_reported failures.Load old new f g e p = absurd cc
 line_reported failures.Report old new f g e p = absurd cc
+line_reported failure old new f g e p = p
 
 -- the same end, by the names of its parts
 pub ends_as : (failure : Option Failure) (name file file' : List ℕ) (r r' : LineResult) (status : ℕ) (w : Seen)
