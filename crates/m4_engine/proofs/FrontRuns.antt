@@ -150,14 +150,8 @@ next_on : (s : State) (more : Bool) (a : Lookahead) (n : ℕ) (cs : List Call) (
 next_on s more aheads.Definition n cs c x z u h = absurd h
 next_on s more aheads.EndsArgument n cs c x z u h = (h.0, end_on s more ends.Argument cs x z h.1)
 next_on s more aheads.ClosesList n cs c x z u h = (h.0, end_on s more ends.List cs x z h.1)
-next_on s more aheads.Expansion n cs c x z u h = ahead_on s more aheads.Expansion n c x z u h
-next_on s more aheads.LineSkip n cs c x z u h = ahead_on s more aheads.LineSkip n c x z u h
-next_on s more aheads.Call n cs c x z u h = ahead_on s more aheads.Call n c x z u h
-next_on s more aheads.List n cs c x z u h = ahead_on s more aheads.List n c x z u h
-next_on s more aheads.End n cs c x z u h = ahead_on s more aheads.End n c x z u h
-next_on s more aheads.UnendedString n cs c x z u h = ahead_on s more aheads.UnendedString n c x z u h
-next_on s more aheads.UnendedComment n cs c x z u h = ahead_on s more aheads.UnendedComment n c x z u h
 next_on s more aheads.Undecided n cs c x z u h = absurd (u refl)
+next_on s more a n cs c x z u h = ahead_on s more a n c x z u h
 
 -- what is right in any list is so in these
 pub ahead_next : (a : Lookahead) (n : ℕ) (cs : List Call) (c : Call) (s : State) (m : Bool) (x : List ℕ)
@@ -165,14 +159,7 @@ pub ahead_next : (a : Lookahead) (n : ℕ) (cs : List Call) (c : Call) (s : Stat
 ahead_next aheads.Definition n cs c s m x h = absurd h
 ahead_next aheads.EndsArgument n cs c s m x h = absurd h
 ahead_next aheads.ClosesList n cs c s m x h = absurd h
-ahead_next aheads.Expansion n cs c s m x h = h
-ahead_next aheads.LineSkip n cs c s m x h = h
-ahead_next aheads.Call n cs c s m x h = h
-ahead_next aheads.List n cs c s m x h = h
-ahead_next aheads.End n cs c s m x h = h
-ahead_next aheads.UnendedString n cs c s m x h = h
-ahead_next aheads.UnendedComment n cs c s m x h = h
-ahead_next aheads.Undecided n cs c s m x h = h
+ahead_next a n cs c s m x h = h
 
 -- the bytes after those at the front
 pub record After (p : Pending) (x : List ℕ) (m : Bool) : Type 0 where
@@ -215,31 +202,13 @@ put_after s p m n x t l h k g =
 next_there : (a : Lookahead) (n : ℕ) (cs : List Call) (c : Call) (s : State) (p : Pending) → p.definition ≡ None
     → IsNext a n cs c s p.may_follow (text_of p) → IsLookaheadOf a n cs c s p
 next_there aheads.Definition n cs c s p f h = absurd h
-next_there aheads.EndsArgument n cs c s p f h = (f, h)
-next_there aheads.ClosesList n cs c s p f h = (f, h)
-next_there aheads.Expansion n cs c s p f h = (f, h)
-next_there aheads.LineSkip n cs c s p f h = (f, h)
-next_there aheads.Call n cs c s p f h = (f, h)
-next_there aheads.List n cs c s p f h = (f, h)
-next_there aheads.End n cs c s p f h = (f, h)
-next_there aheads.UnendedString n cs c s p f h = (f, h)
-next_there aheads.UnendedComment n cs c s p f h = (f, h)
-next_there aheads.Undecided n cs c s p f h = (f, h)
+next_there a n cs c s p f h = (f, h)
 
 -- and so are its bytes after it
 pub after_next : (a : Lookahead) (n : ℕ) (cs : List Call) (c : Call) (s : State) (m : Bool) (x : List ℕ) (i j : Held)
     → IsNext a n cs c s m x → j ≡ record i { pending = consumed n i.pending } → IsAfter a n i j
 after_next aheads.Definition n cs c s m x i j h g = absurd h
-after_next aheads.EndsArgument n cs c s m x i j h g = g
-after_next aheads.ClosesList n cs c s m x i j h g = g
-after_next aheads.Expansion n cs c s m x i j h g = g
-after_next aheads.LineSkip n cs c s m x i j h g = g
-after_next aheads.Call n cs c s m x i j h g = g
-after_next aheads.List n cs c s m x i j h g = g
-after_next aheads.End n cs c s m x i j h g = g
-after_next aheads.UnendedString n cs c s m x i j h g = g
-after_next aheads.UnendedComment n cs c s m x i j h g = g
-after_next aheads.Undecided n cs c s m x i j h g = g
+after_next a n cs c s m x i j h g = g
 
 -- the bytes that are left of those at the front come first once the others were consumed
 pub front_left : (p : Pending) (m : Bool) (n : ℕ) (x : List ℕ) → IsInFront p x m → n ≤ length x → (rest : List ℕ) × (text_of (consumed n p) ≡ drop n x ++ rest)

@@ -55,10 +55,7 @@ next_inline aheads.Expansion n cs c s m x h = named_inline false n s m x h.0
 next_inline aheads.LineSkip n cs c s m x h = named_inline false n s m x h.0
 next_inline aheads.Call n cs c s m x h = named_inline false n s m x h.0
 next_inline aheads.List n cs c s m x h = subst (λ (k : ℕ). IsInline k x) (sym h.1) (named_inline true h.0 s m x h.2)
-next_inline aheads.End n cs c s m x h = none_inline n x h.0
-next_inline aheads.UnendedString n cs c s m x h = none_inline n x h.0
-next_inline aheads.UnendedComment n cs c s m x h = none_inline n x h.0
-next_inline aheads.Undecided n cs c s m x h = none_inline n x h.0
+next_inline a n cs c s m x h = none_inline n x h.0
 
 -- bytes without a newline stay on their line
 pub place_after : (n : ℕ) (p : Pending) → newlines_in (take n (text_of p)) ≡ 0 → place_at (consumed n p) ≡ place_at p
