@@ -10,9 +10,8 @@ ghost use Rattle.m4_frozen.specs.InspectorSteps as steps;
 ghost use Rattle.m4_frozen.specs.Listing as lines;
 
 use crate::fault::WriteFault;
-use crate::gathered::{Gathered, gather_length};
+use crate::gathered::{Full, Gathered, gather_length};
 use crate::loading::Loaded;
-use arrayvec::CapacityError;
 use itoa::Buffer;
 use m4_state::definition::Def;
 use m4_state::device::{ByteSink, DeviceFault};
@@ -155,18 +154,18 @@ fn put_counted<W: ByteSink>(
 }
 
 /// Gathers the same, if the name is shown as it is and there is room.
-fn gather_counted(gathered: &mut Gathered, name: &[u8], text: &[u8]) -> Result<(), CapacityError>
-    requires { gathered.old.items ≡ [] }
-    ensures { OnOk result (gathered.new.items ≡ steps.counted_line name.now text.now) }
+fn gather_counted(gathered: &mut Gathered, name: &[u8], text: &[u8]) -> Result<(), Full>
+    requires { gathered.old ≡ [] }
+    ensures { OnOk result (gathered.new ≡ steps.counted_line name.now text.now) }
 {
     if name.is_empty() || !are_plain(name) {
-        return Err(CapacityError::new(()));
+        return Err(Full);
     }
-    gathered.try_extend_from_slice(b"text ")?;
-    gathered.try_extend_from_slice(name)?;
-    gathered.try_extend_from_slice(b" ")?;
+    gathered.add(b"text ")?;
+    gathered.add(name)?;
+    gathered.add(b" ")?;
     gather_length(gathered, text.len())?;
-    gathered.try_extend_from_slice(b"\n")
+    gathered.add(b"\n")
 }
 
 /// Writes the same part by part, for any name.

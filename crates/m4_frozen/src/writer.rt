@@ -12,8 +12,7 @@ ghost use Rattle.m4_frozen.specs.Freeze as texts;
 ghost use Rattle.m4_frozen.specs.WriterSteps as steps;
 
 use crate::fault::WriteFault;
-use crate::gathered::{Gathered, gather_length};
-use arrayvec::CapacityError;
+use crate::gathered::{Full, Gathered, gather_length};
 use itoa::Buffer;
 use m4_state::definition::Def;
 use m4_state::device::{ByteSink, DeviceFault};
@@ -254,7 +253,7 @@ fn put_second<W: ByteSink>(
     writer: &mut W,
 ) -> Result<(), DeviceFault>
     ensures puts { Puts result (W.contents writer.old) (W.contents writer.new)
-        (steps.with_second gathered.old.items second.now) }
+        (steps.with_second gathered.old second.now) }
     ensures counted { W.failures writer.new ≡ count_after result (W.failures writer.old) }
 {
     match gather_second(gathered, second) {
@@ -307,32 +306,27 @@ fn put_long<W: ByteSink>(
 }
 
 /// Gathers a letter, two lengths and the first string, if there is room for them.
-fn gather_head(
-    gathered: &mut Gathered,
-    letter: u8,
-    first: &[u8],
-    second: &[u8],
-) -> Result<(), CapacityError>
-    requires { gathered.old.items ≡ [] }
-    ensures { OnOk result (gathered.new.items ≡ steps.head_text letter first.now second.now) }
+fn gather_head(gathered: &mut Gathered, letter: u8, first: &[u8], second: &[u8]) -> Result<(), Full>
+    requires { gathered.old ≡ [] }
+    ensures { OnOk result (gathered.new ≡ steps.head_text letter first.now second.now) }
 {
     gathered.push(letter);
     gather_length(gathered, first.len())?;
-    gathered.try_extend_from_slice(b",")?;
+    gathered.add(b",")?;
     gather_length(gathered, second.len())?;
-    gathered.try_extend_from_slice(b"\n")?;
-    gathered.try_extend_from_slice(first)
+    gathered.add(b"\n")?;
+    gathered.add(first)
 }
 
 /// Gathers the second string and a newline, if there is room for both.
-fn gather_second(gathered: &mut Gathered, second: &[u8]) -> Result<(), CapacityError>
-    ensures ok { OnOk result (gathered.new.items ≡ steps.with_second gathered.old.items second.now) }
-    ensures err { OnErr result (gathered.new.items ≡ gathered.old.items) }
+fn gather_second(gathered: &mut Gathered, second: &[u8]) -> Result<(), Full>
+    ensures ok { OnOk result (gathered.new ≡ steps.with_second gathered.old second.now) }
+    ensures err { OnErr result (gathered.new ≡ gathered.old) }
 {
-    if second.len() >= gathered.remaining_capacity() {
-        return Err(CapacityError::new(()));
+    if second.len() >= gathered.left() {
+        return Err(Full);
     }
-    gathered.try_extend_from_slice(second)?;
+    gathered.add(second)?;
     gathered.push(b'\n');
     Ok(())
 }

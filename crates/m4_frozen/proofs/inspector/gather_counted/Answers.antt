@@ -18,8 +18,8 @@ returns c =
     let plain : show c.args.name.now ≡ c.args.name.now =
     show-some c.args.name.now c.is_empty.result c.is_empty.ensures c.if-is_empty.false
     ∙ shown_as_they_are c.args.name.now (sym c.are_plain.ensures ∙ c.if-not-are_plain.false) in
-    on_ok_weaker c.try_extend_from_slice-4.result
+    on_ok_weaker c.add-4.result
     (λ last. last ∙ parts c.args.name.now c.args.text.now _ _ _ _
-    (c.in_ok-try_extend_from_slice.ensures.ok ∙ ap (λ (x : List ℕ). x ++ codes "text ") c.requires)
-    c.in_ok-try_extend_from_slice-2.ensures.ok c.in_ok-try_extend_from_slice-3.ensures.ok c.in_ok-gather_length.ensures plain)
-    c.try_extend_from_slice-4.ensures.ok
+    (c.in_ok-add.ensures.ok ∙ ap (λ (x : List ℕ). x ++ codes "text ") c.requires)
+    c.in_ok-add-2.ensures.ok c.in_ok-add-3.ensures.ok c.in_ok-gather_length.ensures plain)
+    c.add-4.ensures.ok
