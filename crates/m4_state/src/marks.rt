@@ -11,7 +11,7 @@ use std::marker::Model;
 const MARKS: usize = 4096;
 
 /// The greatest index that a mark tells. A name after it has the mark of this one, and is found by its hash.
-const LAST_TOLD: u16 = u16::MAX - 1;
+const LAST_TOLD: usize = 65_534;
 
 /// A mark at the place of each name that was added, and maybe of others: one more than the index of the last name that
 /// was added there, or 0 if none was.
@@ -69,6 +69,6 @@ impl Marks {
         ensures stay { (other : List ℕ) → is_marked self.old other ≡ true → is_marked self.new other ≡ true }
     {
         let place = place_of(name);
-        self.marks[place] = u16::try_from(index).unwrap_or(LAST_TOLD).min(LAST_TOLD) + 1;
+        self.marks[place] = index.min(LAST_TOLD) as u16 + 1;
     }
 }

@@ -14,6 +14,9 @@ use std::marker::Model;
 use std::mem::replace;
 use std::slice::from_ref;
 
+/// A stack of fewer definitions becomes eight times as large when it is full.
+const LARGE: usize = 1024;
+
 /// The definitions of a name, the oldest first. Contracts see them as a list.
 #[derive(Drop)]
 pub struct Stack {
@@ -67,16 +70,18 @@ impl Stack {
         ensures ok { OnOk result (self.new ≡ self.old ++ definition ∷ []) }
         ensures err { OnErr result (self.new ≡ self.old) }
     {
-        if let Kept::Several(definitions) = &mut self.kept {
+        if let Kept::Several(definitions) = &mut self.kept
+            && definitions.len() < definitions.capacity()
+        {
             definitions.push(definition)?;
             return Ok(());
         }
-        self.push_second(alloc, definition)
+        self.push_with_room(alloc, definition)
     }
 
-    /// Adds a definition to one that is held in place. If an allocation fails, nothing changes.
+    /// Adds a definition to one that is held in place, or to a full vector. If an allocation fails, nothing changes.
     #[inline(never)]
-    fn push_second(&mut self, alloc: Global, definition: Def) -> Result<(), AllocError>
+    fn push_with_room(&mut self, alloc: Global, definition: Def) -> Result<(), AllocError>
         ensures ok { OnOk result (self.new ≡ self.old ++ definition ∷ []) }
         ensures err { OnErr result (self.new ≡ self.old) }
     {
@@ -123,11 +128,25 @@ fn pushed_on(kept: Kept, alloc: Global, definition: Def) -> (Kept, Result<(), Al
             }
             Err(refused) => (Kept::One(first), Err(refused)),
         },
-        Kept::Several(mut definitions) => match definitions.push(definition) {
-            Ok(()) => (Kept::Several(definitions), Ok(())),
-            Err(_refused) => (Kept::Several(definitions), Err(AllocError)),
-        },
+        Kept::Several(mut definitions) => {
+            let pushed = push_in(&mut definitions, definition);
+            (Kept::Several(definitions), pushed)
+        }
     }
+}
+
+/// Adds a definition to a full vector. A small one becomes eight times as large, so that few definitions are copied on
+/// the way to a large one, which doubles. If an allocation fails, nothing changes.
+fn push_in(definitions: &mut Vec<Def>, definition: Def) -> Result<(), AllocError>
+    ensures ok { OnOk result (definitions.new.items ≡ definitions.old.items ++ definition ∷ []) }
+    ensures err { OnErr result (definitions.new.items ≡ definitions.old.items) }
+{
+    let len = definitions.len();
+    if len < LARGE {
+        definitions.reserve(7 * len)?;
+    }
+    definitions.push(definition)?;
+    Ok(())
 }
 
 /// Replaces the last definition, or adds the first one. If an allocation fails, nothing changes.
