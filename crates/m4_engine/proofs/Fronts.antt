@@ -1,10 +1,9 @@
 -- Fronts: the buffered output stays while a turn is made, also where an allocation fails in it.
-use Rattle.std.proofs.Common.{◌≡◌, ℕ, List, [], ◌∷◌, ◌++◌, take, inl, inr, refl, sym, ap, subst, ◌∙◌, append-nil, append_assoc}
+use Rattle.std.proofs.Common.{Bool, ◌≡◌, ℕ, List, [], ◌∷◌, ◌++◌, take, inl, inr, refl, sym, ap, subst, ◌∙◌, append-nil, append_assoc}
 use Rattle.std.specs.Prelude.{Result, Ok, Err, OnErr}
 use Rattle.m4_engine.specs.Engine.{Engine, HasFront, KeepsOutput, put_in}
 use Rattle.m4_engine.specs.Expansion.{Call}
-use Rattle.m4_engine.specs.Plain.{total}
-use Rattle.m4_engine.specs.Passes.{PassesOnce, ArePasses, Passes}
+use Rattle.m4_engine.specs.Passes.{PassesText, PassesOnce, ArePasses, Passes}
 use Rattle.m4_input.specs.Input.{Held}
 use Rattle.m4_input.specs.Pending.{text_of}
 
@@ -37,14 +36,17 @@ at_error (Err e) h = h
 
 -- ---- over passes
 
+text_keeps : (m : Bool) (n : ℕ) (x : List ℕ) (old new : Engine) → PassesText m n x old new → KeepsOutput old new
+text_keeps m n x old new (inl h) = subst (λ (d : Engine). KeepsOutput old d) (sym h.engine) (put_keeps [] (take n x) old)
+text_keeps m n x old new (inr (inl h)) = keeps_same old new (ap (λ (d : Engine). d.output) h.engine)
+text_keeps m n x old new (inr (inr h)) =
+    let mid : Engine = put_in [] (take h.before x) old in
+    keeps_after_put [] (take h.before x) old mid new refl
+    (subst (λ (d : Engine). KeepsOutput mid d) (sym h.engine) (put_keeps [] h.text mid))
+
 once_keeps : (old new : Engine) (i j : Held) → PassesOnce old new i j → KeepsOutput old new
 once_keeps old new i j (inl h) = keeps_same old new (ap (λ (d : Engine). d.output) h.0)
-once_keeps old new i j (inr (inl h)) = subst (λ (d : Engine). KeepsOutput old d) (sym h.engine) (put_keeps [] (take (total h.lens) (text_of i.pending)) old)
-once_keeps old new i j (inr (inr (inl h))) = keeps_same old new (ap (λ (d : Engine). d.output) h.engine)
-once_keeps old new i j (inr (inr (inr h))) =
-    let mid : Engine = put_in [] (take (total h.lens) (text_of i.pending)) old in
-    keeps_after_put [] (take (total h.lens) (text_of i.pending)) old mid new refl
-    (subst (λ (d : Engine). KeepsOutput mid d) (sym h.engine) (put_keeps [] h.text mid))
+once_keeps old new i j (inr h) = text_keeps (i.pending).may_follow h.len (text_of i.pending) old new h.text
 
 all_keep : (ss : List (Engine × Held)) (old new : Engine) (i j : Held) → ArePasses ss old new i j → KeepsOutput old new
 all_keep [] old new i j h = keeps_same old new (ap (λ (d : Engine). d.output) h.0)

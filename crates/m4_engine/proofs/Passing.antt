@@ -206,79 +206,69 @@ run_reaches (n ∷ lens) e p d h =
 top_is : (e : Engine) → e.open_calls ≡ [] → at_top e ≡ e
 top_is e h = ap (λ (x : List Call). let d : Engine = record e { open_calls = x } in d) (sym h)
 
-plain_reaches : (e e1 : Engine) (i i1 : Held) → PassesPlain e e1 i i1 → Reaches e i.pending e1 i1.pending
-plain_reaches e e1 i i1 h =
-    let t = run_reaches h.lens e i.pending h.first h.plain in
-    let x = subst (λ (d : Engine). Reaches d i.pending (with_output (take (total h.lens) (text_of i.pending)) d)
-    (consumed (total h.lens) i.pending)) (top_is e h.outside) t in
-    subst (λ (d : Engine). Reaches e i.pending d i1.pending) (sym h.engine)
-    (subst (λ (j : Held). Reaches e i.pending (with_output (take (total h.lens) (text_of i.pending)) e) j.pending) (sym h.input) x)
+plain_reaches : (e e1 : Engine) (p : Pending) (n : ℕ) → p.definition ≡ None → PassesPlain p.may_follow n (text_of p) e e1
+    → Reaches e p e1 (consumed n p)
+plain_reaches e e1 p n f h =
+    let t = run_reaches h.plain.0 e p f h.plain.1 in
+    let x = subst (λ (d : Engine). Reaches d p (with_output (take (total h.plain.0) (text_of p)) d) (consumed (total h.plain.0) p)) (top_is e h.outside) t in
+    subst (λ (d : Engine). Reaches e p d (consumed n p)) (sym h.engine)
+    (subst (λ k. Reaches e p (with_output (take k (text_of p)) e) (consumed k p)) h.plain.2 x)
 
 -- plain tokens and then one that is text
-token_reaches : (e e1 : Engine) (i i1 : Held) → PassesToken e e1 i i1 → Reaches e i.pending e1 i1.pending
-token_reaches e e1 i i1 h =
-    let p : Pending = i.pending in
-    let n : ℕ = total h.lens in
-    let x : List ℕ = take n (text_of p) in
+token_reaches : (e e1 : Engine) (p : Pending) (n : ℕ) → p.definition ≡ None → PassesToken p.may_follow n (text_of p) e e1
+    → Reaches e p e1 (consumed n p)
+token_reaches e e1 p n f h =
+    let x : List ℕ = take h.before (text_of p) in
     let mid : Engine = with_output x (at_top e) in
-    let q : Pending = consumed n p in
+    let q : Pending = consumed h.before p in
     let there : IsPut mid.state q.may_follow h.len h.text (text_of q) =
-    subst (λ (y : List ℕ). IsPut e.state p.may_follow h.len h.text y) (drop_parts n p.pushed p.unread) h.found in
+    subst (λ (y : List ℕ). IsPut e.state p.may_follow h.len h.text y) (drop_parts h.before p.pushed p.unread) h.found in
+    let run : Reaches (at_top e) p mid q =
+    subst (λ k. Reaches (at_top e) p (with_output (take k (text_of p)) (at_top e)) (consumed k p)) h.plain.2 (run_reaches h.plain.0 e p f h.plain.1) in
     let last : Reaches mid q (with_output h.text mid) (consumed h.len q) =
     move_reaches mid (with_output h.text mid) (with_output h.text mid) q (consumed h.len q) (consumed h.len q) refl
     (put_moves mid q h.text h.len refl there) (nothing_reaches (with_output h.text mid) (consumed h.len q)) in
-    let all : Reaches (at_top e) p (with_output h.text mid) (consumed (n + h.len) p) =
-    subst (λ (r : Pending). Reaches (at_top e) p (with_output h.text mid) r) (consumed_twice n h.len p)
-    (both_reach (at_top e) mid (with_output h.text mid) p q (consumed h.len q) refl (run_reaches h.lens e p h.first h.plain) last) in
-    let same : Reaches e p (with_output h.text (with_output x e)) (consumed (n + h.len) p) =
-    subst (λ (d : Engine). Reaches d p (with_output h.text (with_output x d)) (consumed (n + h.len) p)) (top_is e h.outside) all in
-    subst (λ (d : Engine). Reaches e p d i1.pending) (sym h.engine)
-    (subst (λ (j : Held). Reaches e p (with_output h.text (with_output x e)) j.pending) (sym h.input) same)
+    let all : Reaches (at_top e) p (with_output h.text mid) (consumed n p) =
+    subst (λ (r : Pending). Reaches (at_top e) p (with_output h.text mid) r)
+    (consumed_twice h.before h.len p ∙ ap (λ k. consumed k p) (sym h.all))
+    (both_reach (at_top e) mid (with_output h.text mid) p q (consumed h.len q) refl run last) in
+    subst (λ (d : Engine). Reaches e p d (consumed n p)) (sym h.engine)
+    (subst (λ (d : Engine). Reaches d p (with_output h.text (with_output x d)) (consumed n p)) (top_is e h.outside) all)
 
 -- the first bytes of a text that is in front of an input were passed
+text_pending : (old new : Engine) (p : Pending) (m : Bool) (n : ℕ) (x : List ℕ) → IsInFront p x m → n ≤ length x
+    → PassesText m n x old new → PassesText p.may_follow n (text_of p) old new
+text_pending old new p m n x h k (inl r) = inl (record {
+  plain = plain_front old.state p m n x h r.plain;
+  outside = r.outside;
+  engine = r.engine ∙ ap (λ (y : List ℕ). put_in [] y old) (sym (take_in_front p m n x h k));
+})
+text_pending old new p m n x h k (inr (inl r)) = inr (inl (record {
+  innermost = r.innermost;
+  after = r.after;
+  around = r.around;
+  collected = list_front old.state p m n r.innermost r.after x h r.collected;
+  inside = r.inside;
+  engine = r.engine;
+}))
+text_pending old new p m n x h k (inr (inr r)) =
+    let le : r.before ≤ length x = let sum : n ≡ r.before + r.len = r.all in omega (arith, k, sum) in
+    inr (inr (record {
+      before = r.before;
+      plain = plain_front old.state p m r.before x h r.plain;
+      text = r.text;
+      len = r.len;
+      found = put_after old.state p m r.before x r.text r.len h le r.found;
+      all = r.all;
+      outside = r.outside;
+      engine = r.engine ∙ ap (λ (y : List ℕ). put_in [] r.text (put_in [] y old)) (sym (take_in_front p m r.before x h le));
+    }))
+
 pub passes_text : (old new : Engine) (i j : Held) (m : Bool) (n : ℕ) (x : List ℕ) → IsInFront i.pending x m
     → (i.pending).definition ≡ None → n ≤ length x → PassesText m n x old new
     → j ≡ record i { pending = consumed n i.pending } → PassesOnce old new i j
-passes_text old new i j m n x h f k (inl r) g =
-    let run = plain_front old.state i.pending m n x h r.0 in
-    inr (inl (record {
-      lens = run.0;
-      plain = run.1;
-      outside = r.1;
-      first = f;
-      engine = r.2 ∙ ap (λ (y : List ℕ). put_in [] y old) (sym (take_in_front i.pending m n x h k))
-          ∙ ap (λ k. put_in [] (take k (text_of i.pending)) old) (sym run.2);
-      input = g ∙ ap (λ k. let v : Held = record i { pending = consumed k i.pending } in v) (sym run.2);
-    }))
-passes_text old new i j m n x h f k (inr (inl r)) g =
-    inr (inr (inl (record {
-      innermost = r.0;
-      after = r.1;
-      around = r.2;
-      len = n;
-      collected = list_front old.state i.pending m n r.0 r.1 x h r.3;
-      inside = r.4;
-      first = f;
-      engine = r.5;
-      input = g;
-    })))
-passes_text old new i j m n x h f k (inr (inr r)) g =
-    let le : r.0 ≤ length x = let sum : n ≡ r.0 + r.2 = r.5 in omega (arith, k, sum) in
-    let run = plain_front old.state i.pending m r.0 x h r.3 in
-    inr (inr (inr (record {
-      lens = run.0;
-      plain = run.1;
-      text = r.1;
-      len = r.2;
-      found = subst (λ (v : ℕ). IsPut old.state (i.pending).may_follow r.2 r.1 (drop v (text_of i.pending))) (sym run.2)
-          (put_after old.state i.pending m r.0 x r.1 r.2 h le r.4);
-      outside = r.6;
-      first = f;
-      engine = r.7
-          ∙ ap (λ (y : List ℕ). put_in [] r.1 (put_in [] y old)) (sym (take_in_front i.pending m r.0 x h le))
-          ∙ ap (λ v. put_in [] r.1 (put_in [] (take v (text_of i.pending)) old)) (sym run.2);
-      input = g ∙ ap (λ v. let w : Held = record i { pending = consumed v i.pending } in w) (r.5 ∙ ap (λ v. v + r.2) (sym run.2));
-    })))
+passes_text old new i j m n x h f k r g =
+    inr (record { len = n; first = f; text = text_pending old new i.pending m n x h k r; input = g })
 
 -- an engine within a list
 abbrev at_call : Call → List Call → Engine → Engine
@@ -313,48 +303,54 @@ list_reaches (t ∷ ts) c d cs e p f h =
     move_reaches (at_call c cs e) (at_call t.1 cs e) (at_call d cs e) p q (consumed (t.0 + bytes_in ts) p) refl (list_turn c t.1 cs e p t.0 f h.0)
     (subst (λ (x : Pending). Reaches (at_call t.1 cs e) q (at_call d cs e) x) (consumed_twice t.0 (bytes_in ts) p) r)
 
-inner_reaches : (e e1 : Engine) (i i1 : Held) → PassesInner e e1 i i1 → Reaches e i.pending e1 i1.pending
-inner_reaches e e1 i i1 h =
+inner_reaches : (e e1 : Engine) (p : Pending) (n : ℕ) → p.definition ≡ None → PassesInner p.may_follow n (text_of p) e e1
+    → Reaches e p e1 (consumed n p)
+inner_reaches e e1 p n f h =
     let same : at_call h.innermost h.around e ≡ e = ap (λ (y : List Call). let k : Engine = record e { open_calls = y } in k) (sym h.inside) in
     let ts = h.collected.0 in
-    let r = list_reaches ts h.innermost h.after h.around e i.pending h.first h.collected.1 in
-    subst (λ (d : Engine). Reaches e i.pending d i1.pending) (sym h.engine)
-    (subst (λ (j : Held). Reaches e i.pending (at_call h.after h.around e) j.pending) (sym h.input)
-    (subst (λ (n : ℕ). Reaches e i.pending (at_call h.after h.around e) (consumed n i.pending)) h.collected.2
-    (subst (λ (k : Engine). Reaches k i.pending (at_call h.after h.around e) (consumed (bytes_in ts) i.pending)) same r)))
+    let r = list_reaches ts h.innermost h.after h.around e p f h.collected.1 in
+    subst (λ (d : Engine). Reaches e p d (consumed n p)) (sym h.engine)
+    (subst (λ (n : ℕ). Reaches e p (at_call h.after h.around e) (consumed n p)) h.collected.2
+    (subst (λ (k : Engine). Reaches k p (at_call h.after h.around e) (consumed (bytes_in ts) p)) same r))
 
 -- where a list is open, its tokens were collected
+text_reaches : (e e1 : Engine) (p : Pending) (n : ℕ) → p.definition ≡ None → PassesText p.may_follow n (text_of p) e e1
+    → Reaches e p e1 (consumed n p)
+text_reaches e e1 p n f (inl h) = plain_reaches e e1 p n f h
+text_reaches e e1 p n f (inr (inl h)) = inner_reaches e e1 p n f h
+text_reaches e e1 p n f (inr (inr h)) = token_reaches e e1 p n f h
+
 once_reaches : (e e1 : Engine) (i i1 : Held) → PassesOnce e e1 i i1 → Reaches e i.pending e1 i1.pending
 once_reaches e e1 i i1 (inl h) =
     subst (λ (d : Engine). Reaches e i.pending d i1.pending) (sym h.0)
     (subst (λ (j : Held). Reaches e i.pending e j.pending) (sym h.1) (nothing_reaches e i.pending))
-once_reaches e e1 i i1 (inr (inl h)) = plain_reaches e e1 i i1 h
-once_reaches e e1 i i1 (inr (inr (inl h))) = inner_reaches e e1 i i1 h
-once_reaches e e1 i i1 (inr (inr (inr h))) = token_reaches e e1 i i1 h
+once_reaches e e1 i i1 (inr h) =
+    subst (λ (j : Held). Reaches e i.pending e1 j.pending) (sym h.input) (text_reaches e e1 i.pending h.len h.first h.text)
 
 once_ready : (e e1 : Engine) (i i1 : Held) → IsReady i → PassesOnce e e1 i i1 → IsReady i1
 once_ready e e1 i i1 r (inl h) = subst IsReady (sym h.1) r
-once_ready e e1 i i1 r (inr (inl h)) = subst IsReady (sym h.input) (record { sound = r.sound; front = tt })
-once_ready e e1 i i1 r (inr (inr (inl h))) = subst IsReady (sym h.input) (record { sound = r.sound; front = tt })
-once_ready e e1 i i1 r (inr (inr (inr h))) = subst IsReady (sym h.input) (record { sound = r.sound; front = tt })
+once_ready e e1 i i1 r (inr h) = subst IsReady (sym h.input) (record { sound = r.sound; front = tt })
 
 once_follows : (e e1 : Engine) (i i1 : Held) → PassesOnce e e1 i i1 → (i1.pending).may_follow ≡ (i.pending).may_follow
 once_follows e e1 i i1 (inl h) = ap (λ (j : Held). (j.pending).may_follow) h.1
-once_follows e e1 i i1 (inr (inl h)) = ap (λ (j : Held). (j.pending).may_follow) h.input
-once_follows e e1 i i1 (inr (inr (inl h))) = ap (λ (j : Held). (j.pending).may_follow) h.input
-once_follows e e1 i i1 (inr (inr (inr h))) = ap (λ (j : Held). (j.pending).may_follow) h.input
+once_follows e e1 i i1 (inr h) = ap (λ (j : Held). (j.pending).may_follow) h.input
+
+-- what text that is put, and what a list takes, leave as it was
+text_leaves : {A : Type 0} (f : Engine → A) (m : Bool) (n : ℕ) (x : List ℕ) (old new : Engine)
+    → ((y : List ℕ) (e : Engine) → f (put_in [] y e) ≡ f e)
+    → ((cs : List Call) → f (record old { open_calls = cs }) ≡ f old) → PassesText m n x old new → f new ≡ f old
+text_leaves f m n x old new put within (inl h) = ap f h.engine ∙ put (take n x) old
+text_leaves f m n x old new put within (inr (inl h)) = ap f h.engine ∙ within (h.after ∷ h.around)
+text_leaves f m n x old new put within (inr (inr h)) =
+    ap f h.engine ∙ put h.text (put_in [] (take h.before x) old) ∙ put (take h.before x) old
 
 once_limits : (e e1 : Engine) (i i1 : Held) → PassesOnce e e1 i i1 → e1.limits ≡ e.limits
 once_limits e e1 i i1 (inl h) = ap (λ (d : Engine). d.limits) h.0
-once_limits e e1 i i1 (inr (inl h)) = ap (λ (d : Engine). d.limits) h.engine
-once_limits e e1 i i1 (inr (inr (inl h))) = ap (λ (d : Engine). d.limits) h.engine
-once_limits e e1 i i1 (inr (inr (inr h))) = ap (λ (d : Engine). d.limits) h.engine
+once_limits e e1 i i1 (inr h) = text_leaves (λ d. d.limits) _ _ _ e e1 (λ y d. refl) (λ cs. refl) h.text
 
 once_messages : (e e1 : Engine) (i i1 : Held) → PassesOnce e e1 i i1 → e1.messages ≡ e.messages
 once_messages e e1 i i1 (inl h) = ap (λ (d : Engine). d.messages) h.0
-once_messages e e1 i i1 (inr (inl h)) = ap (λ (d : Engine). d.messages) h.engine
-once_messages e e1 i i1 (inr (inr (inl h))) = ap (λ (d : Engine). d.messages) h.engine
-once_messages e e1 i i1 (inr (inr (inr h))) = ap (λ (d : Engine). d.messages) h.engine
+once_messages e e1 i i1 (inr h) = text_leaves (λ d. d.messages) _ _ _ e e1 (λ y d. refl) (λ cs. refl) h.text
 
 reach : (ss : List (Engine × Held)) (e e1 : Engine) (i i1 : Held) → ArePasses ss e e1 i i1 → Reaches e i.pending e1 i1.pending
 reach [] e e1 i i1 h =

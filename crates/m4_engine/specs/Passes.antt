@@ -3,7 +3,7 @@
 use Rattle.std.specs.Prelude.{◌≡◌, Option, None, Some, IfSome, ℕ, ◌+◌, Bool, List, [], ◌∷◌, length, take, drop}
 use Rattle.std.specs.Prelude.{◌<◌, ◌≤◌, ◌⊎◌}
 use Rattle.m4_input.specs.Pending.{text_of, consumed}
-use Rattle.m4_engine.specs.Plain.{IsPut, total, ArePlain, IsPlainRun}
+use Rattle.m4_engine.specs.Plain.{IsPut, IsPlainRun}
 use Rattle.m4_engine.specs.Collected.{IsListRun}
 use Rattle.m4_engine.specs.Expansion.{Call}
 use Rattle.m4_input.specs.Input.{Held}
@@ -23,45 +23,47 @@ abbrev pub IfLeft : {L : Type 0} → Taken L → (L → Type 0) → Type 0
 IfLeft (takens.UpTo end) P = Unit {0}
 IfLeft (takens.Left token) P = P token
 
--- outside of calls, with no definition before the text: its first tokens, which are plain text, were added where text
--- goes: to the output, to a diversion, or nowhere
-pub record PassesPlain (old new : Engine) (i j : Held) : Type 0 where
-  pub lens : List ℕ
-  pub plain : ArePlain old.state (i.pending).may_follow lens (text_of i.pending)
+-- outside of calls: the first n bytes of a text are plain tokens, and were added where text goes: to the output, to a
+-- diversion, or nowhere
+pub record PassesPlain (m : Bool) (n : ℕ) (x : List ℕ) (old new : Engine) : Type 0 where
+  pub plain : IsPlainRun old.state m n x
   pub outside : old.open_calls ≡ []
-  pub first : (i.pending).definition ≡ None
-  pub engine : new ≡ put_in [] (take (total lens) (text_of i.pending)) old
-  pub input : j ≡ record i { pending = consumed (total lens) i.pending }
+  pub engine : new ≡ put_in [] (take n x) old
 
--- in a list, with no definition before the text: its first tokens change the innermost call alone, and were
--- taken into it
-pub record PassesInner (old new : Engine) (i j : Held) : Type 0 where
+-- in a list: the first n bytes change the innermost call alone, and were taken into it
+pub record PassesInner (m : Bool) (n : ℕ) (x : List ℕ) (old new : Engine) : Type 0 where
   pub innermost : Call
   pub after : Call
   pub around : List Call
-  pub len : ℕ
-  pub collected : IsListRun old.state (i.pending).may_follow len innermost after (text_of i.pending)
+  pub collected : IsListRun old.state m n innermost after x
   pub inside : old.open_calls ≡ innermost ∷ around
-  pub first : (i.pending).definition ≡ None
   pub engine : new ≡ record old { open_calls = after ∷ around }
-  pub input : j ≡ record i { pending = consumed len i.pending }
 
--- the same, and then a token whose text was added there: of a string what is between its quotes
-pub record PassesToken (old new : Engine) (i j : Held) : Type 0 where
-  pub lens : List ℕ
-  pub plain : ArePlain old.state (i.pending).may_follow lens (text_of i.pending)
+-- outside of calls: plain tokens, and then one whose text was added there: of a string what is between its quotes
+pub record PassesToken (m : Bool) (n : ℕ) (x : List ℕ) (old new : Engine) : Type 0 where
+  pub before : ℕ
+  pub plain : IsPlainRun old.state m before x
   pub text : List ℕ
   pub len : ℕ
-  pub found : IsPut old.state (i.pending).may_follow len text (drop (total lens) (text_of i.pending))
+  pub found : IsPut old.state m len text (drop before x)
+  pub all : n ≡ before + len
   pub outside : old.open_calls ≡ []
-  pub first : (i.pending).definition ≡ None
-  pub engine : new ≡ put_in [] text (put_in [] (take (total lens) (text_of i.pending)) old)
-  pub input : j ≡ record i { pending = consumed (total lens + len) i.pending }
+  pub engine : new ≡ put_in [] text (put_in [] (take before x) old)
 
--- such tokens were added where they go, or nothing was done
+-- the first n bytes of a text are such tokens, and were added where they go
+abbrev pub PassesText : Bool → ℕ → List ℕ → Engine → Engine → Type 0
+PassesText m n x old new = PassesPlain m n x old new ⊎ (PassesInner m n x old new ⊎ PassesToken m n x old new)
+
+-- the same of what is pending, with no definition before it
+pub record PassesPending (old new : Engine) (i j : Held) : Type 0 where
+  pub len : ℕ
+  pub first : (i.pending).definition ≡ None
+  pub text : PassesText (i.pending).may_follow len (text_of i.pending) old new
+  pub input : j ≡ record i { pending = consumed len i.pending }
+
+-- such tokens were passed, or nothing was done
 abbrev pub PassesOnce : Engine → Engine → Held → Held → Type 0
-PassesOnce old new i j =
-    ((new ≡ old) × (j ≡ i)) ⊎ (PassesPlain old new i j ⊎ (PassesInner old new i j ⊎ PassesToken old new i j))
+PassesOnce old new i j = ((new ≡ old) × (j ≡ i)) ⊎ PassesPending old new i j
 
 -- and so on: after each pass the engine and the input
 abbrev pub ArePasses : List (Engine × Held) → Engine → Engine → Held → Held → Type 0
@@ -77,15 +79,6 @@ pub record IsSeen (a : Lookahead) (c : Call) (e : Engine) (i j : Held) : Type 0 
   pub ready : IsReady i
   pub token : IsLookaheadOf a len e.open_calls c e.state i.pending
   pub after : IsAfter a len i j
-
--- the first n bytes of a text are such tokens, and were added where they go
-abbrev pub PassesText : Bool → ℕ → List ℕ → Engine → Engine → Type 0
-PassesText m n x old new =
-    (IsPlainRun old.state m n x × (old.open_calls ≡ []) × (new ≡ put_in [] (take n x) old))
-    ⊎ (((c : Call) × (d : Call) × (cs : List Call) × IsListRun old.state m n c d x × (old.open_calls ≡ c ∷ cs)
-    × (new ≡ record old { open_calls = d ∷ cs }))
-    ⊎ ((k : ℕ) × (t : List ℕ) × (l : ℕ) × IsPlainRun old.state m k x × IsPut old.state m l t (drop k x)
-    × (n ≡ k + l) × (old.open_calls ≡ []) × (new ≡ put_in [] t (put_in [] (take k x) old))))
 
 -- a block of output is full
 abbrev pub IsFull : Engine → Type 0

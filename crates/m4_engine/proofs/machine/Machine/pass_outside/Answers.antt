@@ -17,11 +17,11 @@ returns-in_ok-put_text-in-Text-2-clause-passes c =
     let next = c.pass_tokens.new.next in
     let k = c.in_ok-len.len in
     let t = c.in-Text-2 in
-    let a : LeftOutside = lefts.Text t.begin t.end t.all in
+    let a : LeftOutside = lefts.Text t.begin t.part t.all in
     let x = c.args.text.now in
     let more : Bool = c.args.more in
     let mid = c.put_outside.new.self in
-    let part : List ℕ = take (t.end - t.begin) (drop t.begin (drop k x)) in
+    let part : List ℕ = take t.part (drop t.begin (drop k x)) in
     let same : c.self.inside.state ≡ old.state = ap (λ (e : Engine). e.state) c.self.view_is in
     let put : mid ≡ put_in [] (take k x) old = c.in_ok-put_outside.ensures.engine ∙ ap (λ (y : List ℕ). put_in [] y old) c.split_at.ensures.front in
     let h : IsLeftOutside a next old.state more (drop k x) =
@@ -36,11 +36,20 @@ returns-in_ok-put_text-in-Text-2-clause-passes c =
     ∙ ap (λ (y : List ℕ). put_in [] y mid) text
     ∙ ap (put_in [] part) put in
     let some : 0 < t.all = put_some old.state more t.all part (drop k x) h.0 in
-    let fits : t.all ≤ length (drop k x) = h.3 in
+    let fits : t.all ≤ length (drop k x) = h.2 in
     let rest : length (drop k x) ≡ length x - k = length-drop k x in
     let within : k ≤ length x = c.in_ok-len.ensures.within in
     record {
-      passes = inr (inr (k, part, t.all, takes, h.0, refl, c.requires.outside, new));
+      passes = inr (inr (record {
+        before = k;
+        plain = takes;
+        text = part;
+        len = t.all;
+        found = h.0;
+        all = refl;
+        outside = c.requires.outside;
+        engine = new;
+      }));
       within = omega (arith, fits, rest, within);
       end = tt;
       none = λ u. (refl, inl (omega (arith, some)));
