@@ -24,6 +24,8 @@ use Rattle.m4_engine.specs.Turns.{MayFollow}
 use Rattle.m4_engine.specs.Expands.{made_before, input_expansion, Expanded, LastAsked, ReadSo, Fell, Expands, ReadsBy}
 use Rattle.m4_engine.specs.Expands.{IsIdle, StepBreaks, StepBreaksBy, progress_before}
 use Rattle.m4_engine.specs.Continued.{comes_to, stands, Leads, Marked, IsMarked, IsFlushed, HandNeeds, HandEnds}
+use Rattle.m4_engine.specs.declared.machine.driver.Paused.{Paused}
+use Rattle.m4_engine.specs.declared.machine.driver.Paused.TheVariants as pauses
 use Rattle.m4_engine.specs.Continued.{HandBreaks, HandGives, HasMade, BreaksInOrder, OrderBy, so_far_in, fault_cause}
 use Rattle.m4_engine.specs.ReadsOn.{IsWantedAfter, HasReadOn, HasStopped, ReadsOn}
 use Rattle.m4_engine.specs.Writers.{Contents, Failures, NoneFailed, FailsBy, writers, Broken, HasWritten}
@@ -478,7 +480,7 @@ module _ (e0 e e' : Engine) (p0 : Pending) (i j k : Held) (before a b : Option S
 pub ends_by_cause : (e0 e e' : Engine) (p0 : Pending) (i j : Held) (before after : Option Script)
     (out0 reported0 out reported out' reported' : Option (List ℕ)) (w : Wanted) (cause : Cause) → IsIdle e0
     → Taking e0 p0 before after out0 reported0 w e i out reported
-    → HandGives w e e' i j (writers out out' reported reported') (Err cause)
+    → HandGives w e e' i j (writers out out' reported reported') (pauses.Over cause)
     → Expands e0 e' p0 before after (writers out0 out' reported0 reported') cause
 ends_by_cause e0 e e' p0 i j before after out0 reported0 out reported out' reported' w (causes.Frozen f) d t h = absurd h
 ends_by_cause e0 e e' p0 i j before after out0 reported0 out reported out' reported' w causes.Read d t h = absurd h
@@ -490,8 +492,8 @@ ends_by_cause e0 e e' p0 i j before after out0 reported0 out reported out' repor
     ended_all e0 e e' p0 i before after out0 reported0 out reported out' reported' w cause d t h
 
 pub ends_so : (e0 e e' : Engine) (p0 : Pending) (i j : Held) (before after : Option Script)
-    (out0 reported0 out reported out' reported' : Option (List ℕ)) (w : Wanted) (cause : Cause) (r : Result Wanted Cause)
-    → r ≡ Err cause → IsIdle e0 → Taking e0 p0 before after out0 reported0 w e i out reported
+    (out0 reported0 out reported out' reported' : Option (List ℕ)) (w : Wanted) (cause : Cause) (r : Paused)
+    → r ≡ pauses.Over cause → IsIdle e0 → Taking e0 p0 before after out0 reported0 w e i out reported
     → HandGives w e e' i j (writers out out' reported reported') r
     → Expands e0 e' p0 before after (writers out0 out' reported0 reported') cause
 ends_so e0 e e' p0 i j before after out0 reported0 out reported out' reported' w cause r f d t h =
@@ -501,21 +503,21 @@ ends_so e0 e e' p0 i j before after out0 reported0 out reported out' reported' w
 told_by_cause : (e0 e : Engine) (p0 : Pending) (i : Held) (before after : Option Script)
     (out0 reported0 out reported out' reported' : Option (List ℕ)) (w : Wanted) (cause : Cause) → IsIdle e0
     → Taking e0 p0 before after out0 reported0 w e i out reported
-    → OrderBy w e i.pending (writers out out' reported reported') (Err cause)
+    → OrderBy w e i.pending (writers out out' reported reported') (pauses.Over cause)
     → StepBreaksBy e0 p0 before after (writers out0 out' reported0 reported') cause
 told_by_cause e0 e p0 i before after out0 reported0 out reported out' reported' w cause d t h =
     broken_map cause _ _ (told_in_hand e0 e p0 i before after out0 reported0 out reported out' reported' w d t) h
 
 pub told_so : (e0 e : Engine) (p0 : Pending) (i : Held) (before after : Option Script)
-    (out0 reported0 out reported out' reported' : Option (List ℕ)) (w : Wanted) (cause : Cause) (r : Result Wanted Cause)
-    → r ≡ Err cause → IsIdle e0 → Taking e0 p0 before after out0 reported0 w e i out reported
+    (out0 reported0 out reported out' reported' : Option (List ℕ)) (w : Wanted) (cause : Cause) (r : Paused)
+    → r ≡ pauses.Over cause → IsIdle e0 → Taking e0 p0 before after out0 reported0 w e i out reported
     → OrderBy w e i.pending (writers out out' reported reported') r
     → StepBreaksBy e0 p0 before after (writers out0 out' reported0 reported') cause
 told_so e0 e p0 i before after out0 reported0 out reported out' reported' w cause r f d t h =
     told_by_cause e0 e p0 i before after out0 reported0 out reported out' reported' w cause d t
     (subst (OrderBy w e i.pending (writers out out' reported reported')) f h)
 
-pub needs_so : (w v : Wanted) (e e' : Engine) (i j : Held) (c : Contents) (r : Result Wanted Cause) → r ≡ Ok v
+pub needs_so : (w v : Wanted) (e e' : Engine) (i j : Held) (c : Contents) (r : Paused) → r ≡ pauses.For v
     → HandGives w e e' i j c r → HandNeeds w e i v e' j c
 needs_so w v e e' i j c r f h = subst (HandGives w e e' i j c) f h
 

@@ -28,6 +28,7 @@ use Rattle.m4_engine.specs.Engine.{HasFront, KeepsOutput}
 use Rattle.m4_engine.specs.Turns.{MayFollow, Moving, Moves, Needs, IsTurned, StaysBy, cause_of_end}
 use Rattle.m4_engine.specs.Passes.{Passes, IsFull}
 use Rattle.m4_engine.specs.Expands.{IsInOrder, FlushesPrefix, FlushesDue}
+use Rattle.m4_engine.specs.declared.machine.driver.Paused.TheVariants as pauses
 use Rattle.m4_engine.specs.Continued.{BreaksInOrder, OrderBy, skipped_first, comes_to, Leads, Marked, IsMarked}
 use Rattle.m4_engine.specs.Continued.{IsFlushed, HandNeeds, HandEnds, HandBreaks, HandGives, HasMade, so_far_in}
 use Rattle.m4_engine.specs.Continued.{GivesOut}
@@ -547,14 +548,14 @@ kept_front n x all out out' cause l h g = subst (λ (v : List ℕ). GivesOut v o
 pub lack_gives : (w : Wanted) (e0 e e' new : Engine) (i0 i j : Held) (n : ℕ) (out0 reported0 out reported out' : Option (List ℕ)) (cause : Cause)
     → Running w e0 i0.pending out0 reported0 e i out reported → n ≡ length e.output → KeepsOutput e e'
     → GivesOut (take n e'.output) out out' cause
-    → HandGives w e0 new i0 j (writers out0 out' reported0 reported) (Err cause)
+    → HandGives w e0 new i0 j (writers out0 out' reported0 reported) (pauses.Over cause)
 lack_gives w e0 e e' new i0 i j n out0 reported0 out reported out' cause r l k g = by cause g
   where
     broken : HandBreaks w e0 i0.pending (writers out0 out' reported0 reported)
     broken = breaks w e0 e i0.pending i out0 reported0 out reported out' r
         (begun_by e.output out out' cause (kept_front n e.output e'.output out out' cause l k g))
 
-    by : (c : Cause) → GivesOut (take n e'.output) out out' c → HandGives w e0 new i0 j (writers out0 out' reported0 reported) (Err c)
+    by : (c : Cause) → GivesOut (take n e'.output) out out' c → HandGives w e0 new i0 j (writers out0 out' reported0 reported) (pauses.Over c)
     by causes.OutOfMemory h = broken
     by causes.Write h = broken
     by c h = absurd h
@@ -562,7 +563,7 @@ lack_gives w e0 e e' new i0 i j n out0 reported0 out reported out' cause r l k g
 pub lack_gives_in_order : (w : Wanted) (e0 e e' : Engine) (p0 : Pending) (i : Held) (n : ℕ) (out0 reported0 out reported out' : Option (List ℕ)) (cause : Cause)
     → Running w e0 p0 out0 reported0 e i out reported → e.messages ≡ [] → n ≡ length e.output → KeepsOutput e e'
     → GivesOut (take n e'.output) out out' cause
-    → OrderBy w e0 p0 (writers out0 out' reported0 reported) (Err cause)
+    → OrderBy w e0 p0 (writers out0 out' reported0 reported) (pauses.Over cause)
 lack_gives_in_order w e0 e e' p0 i n out0 reported0 out reported out' cause r q l k g =
     if_broken cause (BreaksInOrder w e0 p0 (writers out0 out' reported0 reported))
     (lack_breaks_in_order w e0 e p0 i out0 reported0 out reported out' r q
@@ -576,7 +577,7 @@ lack_counted x before after causes.OutOfMemory out0 out out' reported0 reported 
 lack_counted x before after causes.Write out0 out out' reported0 reported g k f h = inl (k ∙ ap one_more f, h)
 lack_counted x before after cause out0 out out' reported0 reported g k f h = absurd g
 
-pub in_order_end : (w : Wanted) (e : Engine) (p : Pending) (c : Contents) (end : TurnEnd) → OrderBy w e p c (Err (cause_of_end end))
+pub in_order_end : (w : Wanted) (e : Engine) (p : Pending) (c : Contents) (end : TurnEnd) → OrderBy w e p c (pauses.Over (cause_of_end end))
 in_order_end w e p c turn_ends.Done = tt
 in_order_end w e p c end = tt
 
@@ -587,13 +588,13 @@ line_done_by i j v w e h = subst (LineGives i j) e h
 
 -- a turn ends an expansion by no fault of a device or of an allocation
 hand_ends_so : (w : Wanted) (old new : Engine) (i j : Held) (c : Contents) (end : TurnEnd)
-    → HandEnds w old i.pending (cause_of_end end) new c → HandGives w old new i j c (Err (cause_of_end end))
+    → HandEnds w old i.pending (cause_of_end end) new c → HandGives w old new i j c (pauses.Over (cause_of_end end))
 hand_ends_so w old new i j c turn_ends.Done h = h
 hand_ends_so w old new i j c end h = h
 
 pub hand_ends : (w : Wanted) (old new : Engine) (i j : Held) (c : Contents) (end : TurnEnd) (cause : Cause)
-    → cause ≡ cause_of_end end → HandEnds w old i.pending (cause_of_end end) new c → HandGives w old new i j c (Err cause)
-hand_ends w old new i j c end cause k h = subst (λ (x : Cause). HandGives w old new i j c (Err x)) (sym k) (hand_ends_so w old new i j c end h)
+    → cause ≡ cause_of_end end → HandEnds w old i.pending (cause_of_end end) new c → HandGives w old new i j c (pauses.Over cause)
+hand_ends w old new i j c end cause k h = subst (λ (x : Cause). HandGives w old new i j c (pauses.Over x)) (sym k) (hand_ends_so w old new i j c end h)
 
 -- the loop begins, by what is wanted
 pub begins_so : (e : Engine) (i k : Held) (w : Wanted) (out reported : Option (List ℕ)) → w ≡ wanted.Token → k ≡ i

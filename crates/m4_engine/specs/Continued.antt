@@ -2,7 +2,7 @@
 -- Not believed: it connects the driver with `Expand`.
 -- Words: comes_to, stands, Leads, Marked, IsMarked, IsFlushed, HandNeeds, HandEnds, HasMade, HandBreaks, BreaksInOrder,
 -- OrderBy, HandGives, GivesOut.
-use Rattle.std.specs.Prelude.{◌≡◌, ◌⊎◌, ℕ, Bool, true, List, [], ◌++◌, Option, Result, Ok, Err}
+use Rattle.std.specs.Prelude.{◌≡◌, ◌⊎◌, ℕ, Bool, true, List, [], ◌++◌, Option}
 use Rattle.m4_state.specs.Device.{with_bytes, HasBegun}
 use Rattle.m4_input.specs.declared.fault.InputFault.{InputFault}
 use Rattle.m4_input.specs.declared.fault.InputFault.TheVariants as faults
@@ -12,6 +12,8 @@ use Rattle.m4_engine.specs.declared.ending.Cause.{Cause}
 use Rattle.m4_engine.specs.declared.ending.Cause.TheVariants as causes
 use Rattle.m4_engine.specs.declared.machine.driver.Wanted.{Wanted}
 use Rattle.m4_engine.specs.declared.machine.driver.Wanted.TheVariants as wanted
+use Rattle.m4_engine.specs.declared.machine.driver.Paused.{Paused}
+use Rattle.m4_engine.specs.declared.machine.driver.Paused.TheVariants as pauses
 use Rattle.m4_engine.specs.Nesting.{Outcome, Halted, Closed, then_on}
 use Rattle.m4_engine.specs.OpenCalls.{Stacked, Goes, pop, resume}
 use Rattle.m4_engine.specs.Moments.{Moment, Next, moved, made_by, Comes}
@@ -116,17 +118,17 @@ pub record BreaksInOrder (w : Wanted) (old : Engine) (p : Pending) (c : Contents
   pub marked : Marked w old p o m
 
 -- by the outcome
-abbrev pub OrderBy : Wanted → Engine → Pending → Contents → Result Wanted Cause → Type 0
-OrderBy w old p c (Ok v) = Unit {0}
-OrderBy w old p c (Err cause) = IfBroken cause (BreaksInOrder w old p c)
+abbrev pub OrderBy : Wanted → Engine → Pending → Contents → Paused → Type 0
+OrderBy w old p c (pauses.For v) = Unit {0}
+OrderBy w old p c (pauses.Over cause) = IfBroken cause (BreaksInOrder w old p c)
 
-abbrev pub HandGives : Wanted → Engine → Engine → Held → Held → Contents → Result Wanted Cause → Type 0
-HandGives w old new i j c (Ok v) = HandNeeds w old i v new j c
-HandGives w old new i j c (Err causes.Read) = ⊥
-HandGives w old new i j c (Err (causes.Frozen fault)) = ⊥
-HandGives w old new i j c (Err causes.Write) = HandBreaks w old i.pending c
-HandGives w old new i j c (Err causes.OutOfMemory) = HandBreaks w old i.pending c
-HandGives w old new i j c (Err cause) = HandEnds w old i.pending cause new c
+abbrev pub HandGives : Wanted → Engine → Engine → Held → Held → Contents → Paused → Type 0
+HandGives w old new i j c (pauses.For v) = HandNeeds w old i v new j c
+HandGives w old new i j c (pauses.Over causes.Read) = ⊥
+HandGives w old new i j c (pauses.Over (causes.Frozen fault)) = ⊥
+HandGives w old new i j c (pauses.Over causes.Write) = HandBreaks w old i.pending c
+HandGives w old new i j c (pauses.Over causes.OutOfMemory) = HandBreaks w old i.pending c
+HandGives w old new i j c (pauses.Over cause) = HandEnds w old i.pending cause new c
 
 -- by the cause that ends an expansion without memory: all of this output was written, or a beginning of it
 abbrev pub GivesOut : List ℕ → Option (List ℕ) → Option (List ℕ) → Cause → Type 0
@@ -135,9 +137,9 @@ GivesOut x before after causes.Write = HasBegun before after x
 GivesOut x before after cause = ⊥
 
 -- a write fault is that of a writer, which failed once; otherwise none did
-abbrev pub cause_of : Result Wanted Cause → Cause
-cause_of (Ok v) = causes.Done
-cause_of (Err cause) = cause
+abbrev pub cause_of : Paused → Cause
+cause_of (pauses.For v) = causes.Done
+cause_of (pauses.Over cause) = cause
 
 -- the cause that ends an expansion whose next block is missing
 abbrev pub fault_cause : InputFault → Cause

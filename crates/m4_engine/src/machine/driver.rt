@@ -33,6 +33,15 @@ pub enum Wanted {
     Line,
 }
 
+/// What an expansion of the bytes in hand comes to.
+#[derive(Clone, Copy)]
+pub enum Paused {
+    /// More bytes are needed, for this purpose.
+    For(Wanted),
+    /// The expansion is over, by this cause.
+    Over(Cause),
+}
+
 impl Machine {
     /// Flushes the buffers in the order in which they were filled: the output of earlier turns, `earlier` bytes long,
     /// then the messages of the last turn, and then its own output.
@@ -98,8 +107,8 @@ impl Machine {
         }
     }
 
-    /// Expands the bytes in hand as far as they decide, and returns for what more are needed, or the cause that ends
-    /// the expansion. Writes messages as they arise, output in blocks, and all of both if more bytes are needed. If
+    /// Expands the bytes in hand as far as they decide, and returns for what more are needed, or the cause by which the
+    /// expansion is over. Writes messages as they arise, output in blocks, and all of both if more bytes are needed. If
     /// the rest of a line is to be discarded, it does that first. If an allocation fails, it writes the output of the
     /// turns before. `copy` is a buffer for a token that spans several texts.
     fn expand_in_hand<O: ByteSink, M: ByteSink>(
@@ -109,7 +118,7 @@ impl Machine {
         input: &mut Input,
         out: &mut O,
         messages: &mut M,
-    ) -> Result<Wanted, Cause>
+    ) -> Paused
         requires ready { IsReady input.old }
         requires flushed { IsFlushed self.old }
         ensures gives { HandGives wanted self.old self.new input.old input.new
@@ -122,23 +131,23 @@ impl Machine {
         if let Wanted::Line = wanted
             && !input.skip_in_hand()
         {
-            return Ok(Wanted::Line);
+            return Paused::For(Wanted::Line);
         }
         let mut next = OpenCall::blank(self.alloc);
         'turns: loop {
             let made = self.output.len();
             let Ok(lookahead) = self.pass_plain(input, copy, &mut next) else {
-                return Err(self.give_out(made, out));
+                return Paused::Over(self.give_out(made, out));
             };
             let Some(lookahead) = lookahead else {
                 if let Err(DeviceFault) = self.write_block(out) {
-                    return Err(Cause::Write);
+                    return Paused::Over(Cause::Write);
                 }
                 continue 'turns;
             };
             let earlier = self.output.len();
             let Ok(turned) = self.turn(lookahead, &mut next, input) else {
-                return Err(self.give_out(earlier, out));
+                return Paused::Over(self.give_out(earlier, out));
             };
             // If the turn leaves no message and less than a block of output, nothing is flushed.
             if let Turned::GoesOn = turned
@@ -148,17 +157,17 @@ impl Machine {
                 continue 'turns;
             }
             if let Err(DeviceFault) = self.flush(earlier, out, messages) {
-                return Err(Cause::Write);
+                return Paused::Over(Cause::Write);
             }
             match turned {
                 Turned::GoesOn => {}
                 Turned::SkipsLine => {
                     if !input.skip_in_hand() {
-                        return Ok(Wanted::Line);
+                        return Paused::For(Wanted::Line);
                     }
                 }
-                Turned::NeedsMore => return Ok(Wanted::Token),
-                Turned::Ends(end) => return Err(end.cause()),
+                Turned::NeedsMore => return Paused::For(Wanted::Token),
+                Turned::Ends(end) => return Paused::Over(end.cause()),
             }
         }
     }
@@ -209,8 +218,8 @@ impl Machine {
         let mut wanted = Wanted::Token;
         'blocks: loop {
             wanted = match self.expand_in_hand(wanted, &mut copy, input, out, messages) {
-                Ok(more) => more,
-                Err(cause) => return cause,
+                Paused::For(more) => more,
+                Paused::Over(cause) => return cause,
             };
             if let Err(fault) = self.read_on(wanted, input, reader) {
                 return match fault {
