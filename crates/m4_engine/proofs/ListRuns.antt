@@ -8,7 +8,7 @@ use Rattle.m4_input.specs.Token.{scan}
 use Rattle.m4_input.specs.declared.front.Scan.TheVariants.{Found}
 use Rattle.m4_input.specs.declared.token.Token.TheVariants.{Byte}
 use Rattle.m4_engine.specs.declared.role.Role.{Role}
-use Rattle.m4_engine.specs.declared.role.Role.TheVariants.{Blank, Other}
+use Rattle.m4_engine.specs.declared.role.Role.TheVariants.{Other}
 use Rattle.m4_engine.specs.Nesting.{Turn, GoOn}
 use Rattle.m4_engine.specs.Expansion.{Call, Mode, Collecting, Expansion, Kept, Ended, issued_in, diverted_in}
 use Rattle.m4_engine.specs.Expansion.{put_text}
@@ -136,34 +136,6 @@ roles_on r c q k (a ∷ x) b h l g = (h.0, roles_on r c q k x b h.1 l g)
 pub roles_more : (r : Role) (c : Call) (q k : Delimiters) (n : ℕ) (x : List ℕ) (b : ℕ) → HaveRole r c q k (take n x)
     → IsLone q k b → role_of b c ≡ r → take (n + 1) x ≡ take n x ++ b ∷ [] → HaveRole r c q k (take (n + 1) x)
 roles_more r c q k n x b h l g e = subst (HaveRole r c q k) (sym e) (roles_on r c q k (take n x) b h l g)
-
--- ---- bytes that are dropped
-
-blank_taken : (b : ℕ) (c : Call) → role_of b c ≡ Blank → TakesByte b c c
-blank_taken b c r s h =
-    ap (λ (v : Role). take_byte v b c s) r
-    ∙ ap (λ (v : Mode). let t : Turn Expansion Kept Ended = GoOn (record s { mode = v }) in t) h
-
-blanks_taken : (s : State) (m : Bool) (x y : List ℕ) (c : Call) → HaveRole Blank c s.quotes s.comments x → IsListRun s m (length x) c c (x ++ y)
-blanks_taken s m [] y c h = list_none s m c y
-blanks_taken s m (b ∷ x) y c h =
-    let k : 1 + length x ≡ length (b ∷ x) = omega arith in
-    subst (λ (j : ℕ). IsListRun s m j c c ((b ∷ x) ++ y)) k
-    (list_on s m 1 (length x) c c c (b ∷ (x ++ y)) (x ++ y) (list_one s m 1 c c (b ∷ (x ++ y)) (inr (b, (h.0).0 m (x ++ y), blank_taken b c (h.0).1))) refl
-    (blanks_taken s m x y c h.1))
-
--- the first n bytes of a text are dropped at once
-blanks_at_once : (s : State) (m : Bool) (n : ℕ) (x : List ℕ) (c : Call) → n ≤ length x → HaveRole Blank c s.quotes s.comments (take n x) → IsListRun s m n c c x
-blanks_at_once s m n x c w h =
-    let k : length (take n x) ≡ n = length-take-le n x w in
-    subst (λ (y : List ℕ). IsListRun s m n c c y) (take-append-drop n x)
-    (subst (λ (j : ℕ). IsListRun s m j c c (take n x ++ drop n x)) k (blanks_taken s m (take n x) (drop n x) c h))
-
--- a byte, and the bytes after it that are dropped
-pub byte_and_blanks : (s : State) (m : Bool) (b n : ℕ) (c d : Call) (x y : List ℕ)
-    → scan s.quotes s.comments m x ≡ Found (Byte b) 1 → TakesByte b c d → y ≡ drop 1 x → n ≤ length y
-    → HaveRole Blank d s.quotes s.comments (take n y) → IsListRun s m (1 + n) c d x
-byte_and_blanks s m b n c d x y h t g w k = list_on s m 1 n c d d x y (list_one s m 1 c d x (inr (b, h, t))) g (blanks_at_once s m n y d w k)
 
 -- a byte alone
 pub byte_taken : (s : State) (m : Bool) (b : ℕ) (c d : Call) (x : List ℕ)

@@ -4,8 +4,8 @@ use Rattle.m4_state.specs.declared.delimiters.Delimiters.{Delimiters}
 use Rattle.m4_engine.specs.Collected.{HaveRole}
 use Rattle.m4_engine.specs.Lookahead.{IsFirst}
 use Rattle.m4_engine.specs.declared.lookahead.FirstToken.{FirstToken}
-use Rattle.m4_engine.specs.declared.role.Role.TheVariants.{Blank, Other}
-use Rattle.m4_engine.proofs.ListRuns.{begun, list_one, list_on, byte_and_blanks, byte_and_texts, byte_taken}
+use Rattle.m4_engine.specs.declared.role.Role.TheVariants.{Other}
+use Rattle.m4_engine.proofs.ListRuns.{begun, list_one, list_on, byte_and_texts, byte_taken}
 use Rattle.m4_engine.proofs.FrontRuns.{ahead_next}
 use Rattle.m4_engine.proofs.PlainRuns.{text_some}
 use Rattle.m4_engine.proofs.collect.OpenCallTokenSink.take.Goals as goal
@@ -17,7 +17,7 @@ returns-in-Text-clause-takes c = λ s next m first q d ahead before.
     let t = c.in-Text in
     let h = subst (λ (a : FirstToken). IsFirst a next s m y) t.is ahead in
     list_on s m c.args.at t.all first c.args.self.now c.put_front.new.self x y before refl
-    (list_one s m t.all c.args.self.now c.put_front.new.self y (inl (take (t.end - t.begin) (drop t.begin y), h.0, search rules)))
+    (list_one s m t.all c.args.self.now c.put_front.new.self y (inl (take t.len (drop t.begin y), h.0, search rules)))
 
 pub returns-in-Text-clause-within : goal.returns-in-Text-clause-within
 returns-in-Text-clause-within c =
@@ -25,8 +25,8 @@ returns-in-Text-clause-within c =
     let t = c.in-Text in
     let r = c.requires.token in
     let h = subst (λ (a : FirstToken). IsFirst a r.1 r.0 r.2 y) t.is r.3 in
-    let some : 0 < t.all = text_some r.0 r.2 t.all (take (t.end - t.begin) (drop t.begin y)) y h.0 in
-    let fits : t.all ≤ length y = h.3 in
+    let some : 0 < t.all = text_some r.0 r.2 t.all (take t.len (drop t.begin y)) y h.0 in
+    let fits : t.all ≤ length y = h.2 in
     let rest : length y ≡ length c.args.text.now - c.args.at = length-drop c.args.at c.args.text.now in
     let before : c.args.at ≤ length c.args.text.now = c.requires.at in
     (omega (arith, some), omega (arith, fits, rest, before))
@@ -36,7 +36,7 @@ returns-then-role-eq4-clause-takes c = λ s next m first q d ahead before.
     let x = c.args.text.now in
     let y = drop c.args.at x in
     let n = c.text_len-len.result in
-    let z = c.split_at-2.result.1.now in
+    let z = c.split_at-then-role-eq4.result.1.now in
     let call = c.args.self.now in
     let new = c.put_front-then-role-eq4.new.self in
     let h = subst (λ (a : FirstToken). IsFirst a next s m y) c.in-Byte.is ahead in
@@ -47,29 +47,14 @@ returns-then-role-eq4-clause-takes c = λ s next m first q d ahead before.
     (c.text_len-len.ensures.bytes (begun call) refl)))
     (search rules))
 
-pub returns-then-has_begun-clause-takes : goal.returns-then-has_begun-clause-takes
-returns-then-has_begun-clause-takes c = λ s next m first q d ahead before.
+pub returns-in-None-clause-takes : goal.returns-in-None-clause-takes
+returns-in-None-clause-takes c = λ s next m first q d ahead before.
     let x = c.args.text.now in
     let y = drop c.args.at x in
     let call = c.args.self.now in
     let new = c.take_byte.new.self in
     let h = subst (λ (a : FirstToken). IsFirst a next s m y) c.in-Byte.is ahead in
     list_on s m c.args.at 1 first call new x y before refl (byte_taken s m c.in-Byte.byte call new y h.0 (search rules))
-
-pub returns-clause-takes : goal.returns-clause-takes
-returns-clause-takes c = λ s next m first q d ahead before.
-    let x = c.args.text.now in
-    let y = drop c.args.at x in
-    let n = c.spaces_len.result in
-    let z = c.split_at-2.result.1.now in
-    let call = c.args.self.now in
-    let new = c.take_byte.new.self in
-    let h = subst (λ (a : FirstToken). IsFirst a next s m y) c.in-Byte.is ahead in
-    list_on s m c.args.at _ first call new x y before refl
-    (byte_and_blanks s m c.in-Byte.byte n call new y z h.0 (search rules) (search rules) c.spaces_len.ensures.within
-    (subst (λ (a : Delimiters). HaveRole Blank new s.quotes a (take n z)) d
-    (subst (λ (a : Delimiters). HaveRole Blank new a c.args.delims.now.comments.now (take n z)) q
-    (c.spaces_len.ensures.bytes new (search rules)))))
 
 -- a byte that ends an argument, or the list
 pub returns-in-Some-Argument-clause-left : goal.returns-in-Some-Argument-clause-left
