@@ -119,7 +119,10 @@ impl EffectBuffer {
     pub fn clear(&mut self)
         ensures { self.new ≡ nothing }
     {
-        self.push = None;
+        // There is hardly ever one, and the test takes less time than dropping none.
+        if self.push.is_some() {
+            self.push = None;
+        }
         self.is_made = false;
         if self.has_more {
             self.clear_more();

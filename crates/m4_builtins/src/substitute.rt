@@ -267,7 +267,9 @@ fn push_count(out: &mut Vec<u8>, count: usize) -> Result<(), AllocError>
     out.extend_from_slice(buffer.format(count).as_bytes())
 }
 
-/// Appends the arguments, with a separator between any two of them.
+/// Appends the arguments, with a separator between any two of them. Not inlined, so that a text with other dollars does
+/// not prepare its loop.
+#[inline(never)]
 #[tactic(auto, using(crate::proofs::Joins::joined_step))]
 pub(crate) fn push_joined(out: &mut Vec<u8>, args: &[Arg], separator: u8) -> Result<(), AllocError>
     ensures { OnOk result (out.new.items ≡ out.old.items ++ joined_by (separator ∷ []) (texts_of args.now)) }
@@ -283,7 +285,9 @@ pub(crate) fn push_joined(out: &mut Vec<u8>, args: &[Arg], separator: u8) -> Res
     Ok(())
 }
 
-/// Appends the arguments, each between quotes, with a comma between any two of them. Most quotes have one byte.
+/// Appends the arguments, each between quotes, with a comma between any two of them. Most quotes have one byte. Not
+/// inlined, as above.
+#[inline(never)]
 pub(crate) fn push_quoted(
     out: &mut Vec<u8>,
     args: &[Arg],

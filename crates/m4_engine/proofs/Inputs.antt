@@ -1,5 +1,5 @@
 -- Inputs: what is pushed in front of an input, whatever follows the bytes in hand.
-use Rattle.std.proofs.Common.{◌≡◌, ℕ, Bool, List, Option, Some, None, refl, sym, ap, ◌∙◌, subst}
+use Rattle.std.proofs.Common.{◌≡◌, ℕ, Bool, List, [], Option, Some, None, refl, sym, ap, ◌∙◌, subst}
 use Rattle.m4_state.specs.declared.definition.Def.{Def}
 use Rattle.m4_input.specs.declared.pushed.Pushed.{Pushed}
 use Rattle.m4_input.specs.declared.pushed.Pushed.TheVariants as pushes
@@ -30,5 +30,9 @@ pushed old new v r n i e = (
 )
 
 -- nothing is pushed
-pub nothing_pushed : (i : Held) → IsTaken i → Pushes i.pending i.pending None × Stays i i
-nothing_pushed i t = (λ z more. refl, record { ready = t.ready; follows = refl; file = refl })
+pub unpushed : (i : Held) → IsTaken i → Pushes i.pending i.pending None × Stays i i
+unpushed i t = (λ z more. refl, record { ready = t.ready; follows = refl; file = refl })
+
+-- nor does an empty text change what is pending
+pub no_text : (i : Held) → IsTaken i → Pushes i.pending i.pending (Some (pushes.Text [])) × Stays i i
+no_text i t = (λ z more. refl, record { ready = t.ready; follows = refl; file = refl })

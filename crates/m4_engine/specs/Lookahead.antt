@@ -2,7 +2,7 @@
 -- Not believed: it connects the code with `Expand`; the turns' lemmas prove that they agree.
 -- Words: IsExpansion, IsCalled, Recognises, len_with, IsNamed, IsNameTaken, IsAhead, IsFirst, IsLeftOutside, IsEndByte,
 -- IsEndIn, IsNext, IsLookaheadOf, IsAfter.
-use Rattle.std.specs.Prelude.{◌≡◌, ◌≢◌, ◌<◌, ◌≤◌, ◌+◌, ◌-◌, Bool, true, false, ℕ, List, [], ◌∷◌, None, Some, length}
+use Rattle.std.specs.Prelude.{◌≡◌, ◌≢◌, ◌<◌, ◌≤◌, ◌+◌, Bool, true, false, ℕ, List, [], ◌∷◌, None, Some, length}
 use Rattle.std.specs.Prelude.{take, drop}
 use Rattle.m4_state.specs.declared.builtin.Builtin.TheVariants.{Dnl}
 use Rattle.m4_state.specs.declared.definition.Def.TheVariants.{Text, Builtin}
@@ -80,16 +80,16 @@ IsAhead aheads.Undecided n c s m x = (n ≡ 0) × IsUndecided s m x
 
 -- the token, with the next call c, is the first one of a text
 abbrev pub IsFirst : FirstToken → Call → State → Bool → List ℕ → Type 0
-IsFirst (firsts.Text begin end n) c s m x =
-    IsText s m n (take (end - begin) (drop begin x)) x × (begin ≤ end) × (end ≤ length x) × (n ≤ length x)
+IsFirst (firsts.Text begin len n) c s m x =
+    IsText s m n (take len (drop begin x)) x × (begin + len ≤ length x) × (n ≤ length x)
 IsFirst (firsts.Byte b) c s m x = (scan s.quotes s.comments m x ≡ Found (Byte b) 1) × (0 < length x)
 IsFirst (firsts.Other a n) c s m x = IsAhead a n c s m x
 
 -- outside of calls this is left of the first token of a text: the token, or n bytes of which a part is put
 abbrev pub IsLeftOutside : LeftOutside → Call → State → Bool → List ℕ → Type 0
 IsLeftOutside (lefts.Other a n) c s m x = IsAhead a n c s m x
-IsLeftOutside (lefts.Text begin end n) c s m x =
-    IsPut s m n (take (end - begin) (drop begin x)) x × (begin ≤ end) × (end ≤ length x) × (n ≤ length x)
+IsLeftOutside (lefts.Text begin len n) c s m x =
+    IsPut s m n (take len (drop begin x)) x × (begin + len ≤ length x) × (n ≤ length x)
 
 -- the first token of a text is a byte that ends the argument or the list of an open call
 pub record IsEndByte (end : ListEnd) (d : Call) (s : State) (m : Bool) (x : List ℕ) : Type 0 where

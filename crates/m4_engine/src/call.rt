@@ -57,6 +57,14 @@ impl Model for OpenCall {
 /// needs.
 const LARGEST_COPIED: usize = 256;
 
+/// Returns whether the text of a definition is too long to be kept for its memory.
+fn is_large(definition: &Def) -> bool {
+    match definition {
+        Def::Text(text) | Def::Placeholder(text) => text.as_slice().len() > LARGEST_COPIED,
+        Def::Builtin(_) => false,
+    }
+}
+
 /// Drops the large texts and the definitions among the arguments.
 fn drop_large(args: &mut [Arg]) {
     for arg in args.iter_mut() {
@@ -128,8 +136,14 @@ impl OpenCall {
     pub fn begin(&mut self, next: &mut OpenCall)
         ensures { self.new ≡ call_of next.old.definition next.old.name self.old.place }
     {
-        std::mem::swap(&mut self.name, &mut next.name);
-        std::mem::swap(&mut self.definition, &mut next.definition);
+        // To copy a short text takes less time than to swap two.
+        if !self.name.set_short(&next.name) {
+            std::mem::swap(&mut self.name, &mut next.name);
+        }
+        if !self.definition.set_in_place(&next.definition) {
+            std::mem::swap(&mut self.definition, &mut next.definition);
+            self.is_large |= is_large(&self.definition);
+        }
         self.clear();
     }
 
@@ -168,11 +182,7 @@ impl OpenCall {
     /// of the contents is dropped by `renew`.
     #[inline(always)]
     pub fn shed(&mut self, most: usize) {
-        let is_large = match &self.definition {
-            Def::Text(text) | Def::Placeholder(text) => text.as_slice().len() > LARGEST_COPIED,
-            Def::Builtin(_) => false,
-        };
-        if self.args.len() > most || self.is_large || is_large {
+        if self.args.len() > most || self.is_large {
             self.shed_memory(most);
         }
     }
@@ -251,13 +261,6 @@ impl OpenCall {
         ensures { result.now ≡ self.now.place }
     {
         &self.place
-    }
-
-    /// Returns whether the argument has begun. Until it has, white space is dropped.
-    pub fn has_begun(&self) -> bool
-        ensures { result ≡ self.now.begun }
-    {
-        self.begun
     }
 
     /// Marks the argument as begun, so that white space now belongs to it.

@@ -2,11 +2,11 @@
 //! others end it, or are counted or dropped. Manual: "Macro arguments", "Quoting arguments".
 
 ghost use Rattle.std.proofs.Common.{refl};
-ghost use Rattle.std.specs.Prelude.{◌≡◌, ◌≤◌, true, false, List, [], ◌∷◌, length, take};
+ghost use Rattle.std.specs.Prelude.{◌≡◌, ◌≤◌, true, List, [], ◌∷◌, length, take};
 ghost use Rattle.m4_engine.specs.Collected.{HaveRole, IsListRun};
 ghost use Rattle.m4_engine.specs.Expansion.{Call};
 ghost use Rattle.m4_engine.specs.Lookahead.{IsNext};
-ghost use Rattle.m4_engine.specs.declared.role.Role.TheVariants.{Blank, Other};
+ghost use Rattle.m4_engine.specs.declared.role.Role.TheVariants.{Other};
 
 use crate::call::OpenCall;
 use crate::lookahead::{FirstToken, Lookahead};
@@ -33,27 +33,22 @@ impl TokenSink for OpenCall {
         let (_, text) = text.split_at(at);
         let byte = match token {
             FirstToken::Byte(byte) => byte,
-            FirstToken::Text(begin, end, all) => {
-                self.put_front(text.split_at(begin).1, end - begin)?;
+            FirstToken::Text { begin, len, all } => {
+                self.put_front(text.split_at(begin).1, len)?;
                 return Ok(Taken::UpTo(at + all));
             }
             FirstToken::Other(token, len) => return Ok(Taken::Left((token, len))),
         };
-        let (_, rest) = text.split_at(1);
         if self.role(byte) == Role::Other {
-            let len = 1 + text_len(rest, delims);
+            let len = 1 + text_len(text.split_at(1).1, delims);
             self.put_front(text, len)?;
             return Ok(Taken::UpTo(at + len));
         }
         match self.take_byte(byte)? {
-            None => {}
-            Some(ListEnd::Argument) => return Ok(Taken::Left((Lookahead::EndsArgument, 1))),
-            Some(ListEnd::List) => return Ok(Taken::Left((Lookahead::ClosesList, 1))),
+            None => Ok(Taken::UpTo(at + 1)),
+            Some(ListEnd::Argument) => Ok(Taken::Left((Lookahead::EndsArgument, 1))),
+            Some(ListEnd::List) => Ok(Taken::Left((Lookahead::ClosesList, 1))),
         }
-        if self.has_begun() {
-            return Ok(Taken::UpTo(at + 1));
-        }
-        Ok(Taken::UpTo(at + (1 + spaces_len(rest, delims))))
     }
 
     ghost none = { λ s m c x. ([], refl, refl) };
@@ -83,24 +78,6 @@ fn text_len(text: &[u8], delims: &Delims<'_>) -> usize
         && TEXT_BYTES[text[k] as usize] == b'.'
         && !delims.may_comment(text[k])
         && !delims.may_quote(text[k])
-    {
-        k += 1;
-    }
-    k
-}
-
-/// Counts the spaces at the start, if no delimiter begins with one. Before an argument's first token they are dropped.
-#[inline(always)]
-fn spaces_len(text: &[u8], delims: &Delims<'_>) -> usize
-    ensures bytes { (c : Call) → c.begun ≡ false
-        → HaveRole Blank c delims.now.quotes.now delims.now.comments.now (take result text.now) }
-    ensures within { result ≤ length text.now }
-{
-    let mut k = 0;
-    while k < text.len()
-        && text[k] == b' '
-        && !delims.may_comment(b' ')
-        && !delims.may_quote(b' ')
     {
         k += 1;
     }

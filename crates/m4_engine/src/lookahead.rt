@@ -4,6 +4,7 @@ ghost use Rattle.std.specs.Prelude.{◌≡◌, IfOk};
 ghost use Rattle.m4_input.specs.Look.{scan_of, LookLies};
 ghost use Rattle.m4_input.specs.Token.{scan};
 ghost use Rattle.m4_engine.specs.Lookahead.{IsFirst};
+ghost use Rattle.m4_engine.specs.declared.lookahead.FirstToken.TheVariants as firsts;
 
 use crate::call::OpenCall;
 use m4_builtins::substitute::is_plain;
@@ -18,9 +19,15 @@ use std::alloc::AllocError;
 /// The first token of a text. It goes where tokens go that call nothing, or a turn acts on it.
 #[derive(Clone, Copy)]
 pub enum FirstToken {
-    /// A string, or a token that is text as it is: a name without a definition, or a comment. Where its text begins and
-    /// ends, and the length of all of it.
-    Text(usize, usize, usize),
+    /// A string, or a token that is text as it is: a name without a definition, or a comment.
+    Text {
+        /// Where its text begins.
+        begin: usize,
+        /// The length of its text.
+        len: usize,
+        /// The length of all of it.
+        all: usize,
+    },
     /// A byte that belongs to no other token.
     Byte(u8),
     /// Any other token, and how many of its bytes a pass consumes. A turn acts on it.
@@ -57,6 +64,18 @@ pub enum Lookahead {
 }
 
 impl FirstToken {
+    /// Returns the token of so many bytes that is text as it is.
+    #[inline(always)]
+    fn as_it_is(len: usize) -> FirstToken
+        ensures { result ≡ firsts.Text 0 len len }
+    {
+        FirstToken::Text {
+            begin: 0,
+            len,
+            all: len,
+        }
+    }
+
     /// Returns the token that this look found, and makes the next call that of a name that calls.
     /// `more` is whether bytes may come after the text. The place of a call is not set yet. Without a list, a text that
     /// has no dollar is its own expansion, and `dnl`, with which many lines end, needs no call in memory.
@@ -78,8 +97,8 @@ impl FirstToken {
         let len = match look {
             Look::Name(len) => len,
             Look::Byte(byte) => return Ok(FirstToken::Byte(byte)),
-            Look::Quoted(begin, len, all) => return Ok(FirstToken::Text(begin, begin + len, all)),
-            Look::Comment(len) => return Ok(FirstToken::Text(0, len, len)),
+            Look::Quoted { begin, len, all } => return Ok(FirstToken::Text { begin, len, all }),
+            Look::Comment(len) => return Ok(FirstToken::as_it_is(len)),
             Look::End => return Ok(FirstToken::Other(Lookahead::End, 0)),
             Look::Unended(Unended::InString) => {
                 return Ok(FirstToken::Other(Lookahead::UnendedString, 0));
@@ -91,7 +110,7 @@ impl FirstToken {
         };
         let (name, after) = text.split_at(len);
         let Some(definition) = state.top(name) else {
-            return Ok(FirstToken::Text(0, len, len));
+            return Ok(FirstToken::as_it_is(len));
         };
         match list_follows(after, delims, more) {
             Answer::Yes => {

@@ -16,8 +16,15 @@ use std::alloc::AllocError;
 /// A token that is left outside of calls.
 #[derive(Clone, Copy)]
 pub enum LeftOutside {
-    /// The pass puts its text: where that begins and ends in the token, and the length of the token.
-    Text(usize, usize, usize),
+    /// The pass puts its text.
+    Text {
+        /// Where the text begins in the token.
+        begin: usize,
+        /// The length of the text.
+        len: usize,
+        /// The length of the token.
+        all: usize,
+    },
     /// A turn acts on it, and the pass consumes so many bytes of it.
     Other(Lookahead, usize),
 }
@@ -42,14 +49,18 @@ impl TokenSink for Outside {
         _delims: &Delims<'_>,
     ) -> Result<Taken<LeftOutside>, AllocError> {
         match token {
-            FirstToken::Text(0, end, all) if end == all && at < OUTPUT_BLOCK => {
+            FirstToken::Text { begin: 0, len, all } if len == all && at < OUTPUT_BLOCK => {
                 Ok(Taken::UpTo(at + all))
             }
             FirstToken::Byte(_) if at < OUTPUT_BLOCK => Ok(Taken::UpTo(at + 1)),
-            FirstToken::Text(begin, end, all) => {
-                Ok(Taken::Left(LeftOutside::Text(begin, end, all)))
+            FirstToken::Text { begin, len, all } => {
+                Ok(Taken::Left(LeftOutside::Text { begin, len, all }))
             }
-            FirstToken::Byte(_) => Ok(Taken::Left(LeftOutside::Text(0, 1, 1))),
+            FirstToken::Byte(_) => Ok(Taken::Left(LeftOutside::Text {
+                begin: 0,
+                len: 1,
+                all: 1,
+            })),
             FirstToken::Other(token, len) => Ok(Taken::Left(LeftOutside::Other(token, len))),
         }
     }

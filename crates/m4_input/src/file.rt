@@ -43,24 +43,13 @@ impl Model for File {
     ghost invariant = { IsFile };
 }
 
-/// Counts the newlines. Most tokens of a file are one byte.
-#[inline(always)]
-fn count_newlines(bytes: &[u8]) -> usize
-    ensures { result ≡ newlines_in bytes.now }
-{
-    match bytes {
-        [byte] => usize::from(*byte == b'\n'),
-        _ => count_each_newline(bytes),
-    }
-}
-
 /// The number of bytes in which newlines are counted at once. The count fits into a byte, so one instruction compares
 /// many bytes.
 const COUNTED_AT_ONCE: usize = 255;
 
-/// Counts the newlines of any number of bytes. Not inlined, so that the loop has the registers for itself.
+/// Counts the newlines. Not inlined, so that the loop has the registers for itself.
 #[inline(never)]
-fn count_each_newline(bytes: &[u8]) -> usize
+fn count_newlines(bytes: &[u8]) -> usize
     ensures { result ≡ newlines_in bytes.now }
 {
     let mut count = 0usize;

@@ -155,14 +155,12 @@ impl Input {
         ensures { OnOk result (name.new ≡ name_of self.now.pending) }
     {
         match &self.name {
-            Some(file) => {
-                if !name.set_short(file) {
-                    *name = file.share()?;
-                }
+            Some(file) => name.set(file),
+            None => {
+                *name = Bytes::empty();
+                Ok(())
             }
-            None => *name = Bytes::empty(),
         }
-        Ok(())
     }
 
     /// Returns bytes at the start in one slice, and whether others in hand come after them. If so, there are more than

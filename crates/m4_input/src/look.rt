@@ -171,7 +171,11 @@ fn look_at_string(text: &[u8], pair: &Delimiters, may_follow: bool) -> Look
     let end = pair.end.as_slice();
     match follow_string(text.split_at(begin).1, 0, pair, may_follow) {
         StringSoFar::Open(_, _) => without_end(Unended::InString, may_follow),
-        StringSoFar::Ends(n) => Look::Quoted(begin, n, begin + (n + end.len())),
+        StringSoFar::Ends(len) => Look::Quoted {
+            begin,
+            len,
+            all: begin + (len + end.len()),
+        },
     }
 }
 
@@ -224,7 +228,7 @@ pub(crate) fn copied(alloc: Global, look: Look, text: &[u8]) -> Result<Scan, All
     let found = match look {
         Look::Name(len) => Scan::Found(Token::Name(front_of(alloc, text, 0, len)?), len),
         Look::Byte(byte) => Scan::Found(Token::Byte(byte), 1),
-        Look::Quoted(begin, len, all) => {
+        Look::Quoted { begin, len, all } => {
             Scan::Found(Token::Str(front_of(alloc, text, begin, len)?), all)
         }
         Look::Comment(len) => Scan::Found(Token::Comment(front_of(alloc, text, 0, len)?), len),

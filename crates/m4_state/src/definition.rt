@@ -1,6 +1,6 @@
 //! Definitions of names.
 
-ghost use Rattle.std.specs.Prelude.{◌≡◌, IfOk, OnOk, OnErr};
+ghost use Rattle.std.specs.Prelude.{◌≡◌, IfOk, OnOk, OnErr, true, false};
 
 use crate::builtin::Builtin;
 use crate::bytes::Bytes;
@@ -38,19 +38,28 @@ impl Def {
         ensures ok { OnOk result (self.new ≡ other.now) }
         ensures err { OnErr result (self.new ≡ self.old) }
     {
-        if let Def::Text(text) = self
-            && let Def::Text(others) = other
-            && text.set_short(others)
-        {
-            return Ok(());
-        }
-        if let Def::Builtin(builtin) = self
-            && let Def::Builtin(others) = other
-        {
-            *builtin = *others;
+        if self.set_in_place(other) {
             return Ok(());
         }
         self.set_any(other)
+    }
+
+    /// Makes this the same definition as another, if both are texts that are held in place, or both builtins. Returns
+    /// whether they are.
+    #[doc(hidden)]
+    #[inline(always)]
+    pub fn set_in_place(&mut self, other: &Def) -> bool
+        ensures set { result ≡ true → self.new ≡ other.now }
+        ensures left { result ≡ false → self.new ≡ self.old }
+    {
+        match (self, other) {
+            (Def::Text(text), Def::Text(others)) => text.set_short(others),
+            (Def::Builtin(builtin), Def::Builtin(others)) => {
+                *builtin = *others;
+                true
+            }
+            _ => false,
+        }
     }
 
     /// Makes this the same definition as another. Not inlined, so that a call that is renewed is short.

@@ -1,14 +1,27 @@
 //! The ends of arguments: a comma ends one, and a parenthesis the last one and its list.
 //! Manual: "Macro arguments".
 
-ghost use Rattle.std.specs.Prelude.{◌≡◌, ◌≢◌, [], OnOk, OnErr};
+ghost use Rattle.std.specs.Prelude.{◌≡◌, ◌≢◌, ◌++◌, [], OnOk, OnErr};
+ghost use Rattle.m4_builtins.specs.Messages.{dropped};
 ghost use Rattle.m4_engine.specs.Engine.{ending_argument, IfHead, KeepsOutput, outer_of};
 ghost use Rattle.m4_engine.specs.Turns.{IsTaken, StepsBy, close_in, step};
 
 use crate::machine::Machine;
 use crate::turned::{TurnFault, Turned};
 use m4_builtins::messages::dropped_message;
+use m4_builtins::place::Place;
 use m4_input::input::Input;
+use std::alloc::Global;
+
+/// Appends the warning that an argument drops definitions. Not inlined, since hardly any does.
+#[inline(never)]
+fn add_dropped(messages: &mut Vec<u8>, alloc: Global, place: &Place) -> Result<(), TurnFault>
+    ensures { OnOk result (messages.new.items ≡ messages.old.items ++ dropped place.now) }
+{
+    let message = dropped_message(alloc, place)?;
+    messages.extend_from_slice(message.as_slice())?;
+    Ok(())
+}
 
 impl Machine {
     /// Ends the current argument of the innermost call.
@@ -23,9 +36,7 @@ impl Machine {
         }
         let call = &mut self.stack[self.depth - 1];
         if call.end_argument()? {
-            let place = call.place();
-            let message = dropped_message(self.alloc, place)?;
-            self.add_message(message.as_slice())?;
+            add_dropped(&mut self.messages, self.alloc, call.place())?;
         }
         Ok(())
     }

@@ -61,15 +61,16 @@ pub(super) fn push_text(input: &mut Input, text: &Bytes) -> Result<(), TurnFault
     push(input, Pushed::Text(text.share()?))
 }
 
-/// Pushes the value of a call, if it has one. A short text that the call made is copied to its place.
-#[tactic(auto, using(crate::proofs::Inputs::pushed, crate::proofs::Inputs::nothing_pushed))]
+/// Pushes the value of a call, if it has one. A short text that the call made is copied to its place. Nothing is done
+/// for an empty one, which many calls make.
+#[tactic(auto, using(crate::proofs::Inputs::pushed, crate::proofs::Inputs::unpushed, crate::proofs::Inputs::no_text))]
 fn push_value(input: &mut Input, effect: &mut EffectBuffer) -> Result<(), TurnFault>
     requires input { IsTaken input.old }
     ensures pushes { OnOk result (Pushes input.old.pending input.new.pending effect.old.push) }
     ensures stays { OnOk result (Stays input.old input.new) }
 {
     if let Some(text) = effect.made_text() {
-        if input.put_before(text) {
+        if text.is_empty() || input.put_before(text) {
             return Ok(());
         }
     }

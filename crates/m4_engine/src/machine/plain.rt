@@ -103,9 +103,13 @@ impl Machine {
         self.put_outside(passed)?;
         match left {
             LeftOutside::Other(lookahead, token) => Ok((len, token, Some(lookahead))),
-            LeftOutside::Text(..) if self.output.len() >= OUTPUT_BLOCK => Ok((len, 0, None)),
-            LeftOutside::Text(begin, end, all) => {
-                self.put_text(rest.split_at(begin).1.split_at(end - begin).0)?;
+            LeftOutside::Text { .. } if self.output.len() >= OUTPUT_BLOCK => Ok((len, 0, None)),
+            LeftOutside::Text {
+                begin,
+                len: part,
+                all,
+            } => {
+                self.put_text(rest.split_at(begin).1.split_at(part).0)?;
                 Ok((len + all, 0, None))
             }
         }

@@ -60,7 +60,7 @@ pub fn describe_look(look: Look, text: &[u8], report: &mut Report) {
             add_part(text, 0, len, report);
         }
         Look::Byte(byte) => report.pair(b"byte ", &[byte]),
-        Look::Quoted(begin, len, all) => {
+        Look::Quoted { begin, len, all } => {
             report.add(b"string ");
             add_part(text, begin, len, report);
             report.counted(b" of ", all);

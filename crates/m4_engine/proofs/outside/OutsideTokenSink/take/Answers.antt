@@ -12,25 +12,24 @@ returns-in-Text-eq0-default-default-clause-takes c = λ s next m first q d ahead
     let x = c.args._text.now in
     let at = c.args.at in
     let y = drop at x in
-    let end = c.in-Text-eq0-default-default.end in
+    let len = c.in-Text-eq0-default-default.len in
     let all = c.in-Text-eq0-default-default.all in
-    let is : c.args.token ≡ firsts.Text 0 end all = search rules in
-    let h : IsFirst (firsts.Text 0 end all) next s m y = subst (λ (a : FirstToken). IsFirst a next s m y) is ahead in
-    let whole : end - 0 ≡ all = omega (arith, c.if-end-all.true) in
-    plain_on s m at all x y before refl (plain_text s m all y (take (end - 0) (drop 0 y)) h.0 (ap (λ (j : ℕ). take j y) whole))
+    let is : c.args.token ≡ firsts.Text 0 len all = search rules in
+    let h : IsFirst (firsts.Text 0 len all) next s m y = subst (λ (a : FirstToken). IsFirst a next s m y) is ahead in
+    plain_on s m at all x y before refl (plain_text s m all y (take len (drop 0 y)) h.0 (ap (λ (j : ℕ). take j y) c.if-len-all.true))
 
 pub returns-in-Text-eq0-default-default-clause-within :
     goal.returns-in-Text-eq0-default-default-clause-within
 returns-in-Text-eq0-default-default-clause-within c =
     let y = drop c.args.at c.args._text.now in
-    let end = c.in-Text-eq0-default-default.end in
+    let len = c.in-Text-eq0-default-default.len in
     let all = c.in-Text-eq0-default-default.all in
     let r = c.requires.token in
-    let is : c.args.token ≡ firsts.Text 0 end all = search rules in
-    let h : IsFirst (firsts.Text 0 end all) r.1 r.0 r.2 y = subst (λ (a : FirstToken). IsFirst a r.1 r.0 r.2 y) is r.3 in
-    let some : 0 < all = text_some r.0 r.2 all (take (end - 0) (drop 0 y)) y h.0 in
+    let is : c.args.token ≡ firsts.Text 0 len all = search rules in
+    let h : IsFirst (firsts.Text 0 len all) r.1 r.0 r.2 y = subst (λ (a : FirstToken). IsFirst a r.1 r.0 r.2 y) is r.3 in
+    let some : 0 < all = text_some r.0 r.2 all (take len (drop 0 y)) y h.0 in
     let rest : length y ≡ length c.args._text.now - c.args.at = length-drop c.args.at c.args._text.now in
-    (omega (arith, some), omega (arith, h.3, rest, c.requires.at))
+    (omega (arith, some), omega (arith, h.2, rest, c.requires.at))
 
 pub returns-in-Byte-clause-takes : goal.returns-in-Byte-clause-takes
 returns-in-Byte-clause-takes c = λ s next m first q d ahead before.
@@ -44,13 +43,13 @@ pub returns-in-Text-clause-left : goal.returns-in-Text-clause-left
 returns-in-Text-clause-left c = λ s next m ahead.
     let y = drop c.args.at c.args._text.now in
     let h = subst (λ (a : FirstToken). IsFirst a next s m y) c.in-Text.is ahead in
-    (inl h.0, h.1, h.2, h.3)
+    (inl h.0, h.1, h.2)
 
 pub returns-in-Byte-2-clause-left : goal.returns-in-Byte-2-clause-left
 returns-in-Byte-2-clause-left c = λ s next m ahead.
     let y = drop c.args.at c.args._text.now in
     let h = subst (λ (a : FirstToken). IsFirst a next s m y) c.in-Byte-2.is ahead in
-    (inr (c.in-Byte-2.field-0, h.0, byte_part s m c.in-Byte-2.field-0 y h.0), omega arith, omega (arith, h.1), omega (arith, h.1))
+    (inr (c.in-Byte-2.field-0, h.0, byte_part s m c.in-Byte-2.field-0 y h.0), omega (arith, h.1), omega (arith, h.1))
 
 pub returns-in-Other-clause-left : goal.returns-in-Other-clause-left
 returns-in-Other-clause-left c = λ s next m ahead.

@@ -1,6 +1,6 @@
 use Rattle.std.proofs.Common.{◌≡◌, ◌+◌, ◌≤◌, length}
 use Rattle.m4_input.specs.Pending.{newlines_in}
-use Rattle.m4_input.proofs.file.count_each_newline.Given as goal
+use Rattle.m4_input.proofs.file.count_newlines.Given as goal
 
 -- those so far and those of the rest
 abbrev pub invariant-loop-rest : goal.invariant-loop-rest
