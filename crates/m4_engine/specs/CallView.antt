@@ -17,7 +17,7 @@ call_view c = record {
   done = take c.count c.args.items;
   parentheses = c.parentheses;
   begun = c.begun;
-  bytes = c.bytes.items;
+  bytes = c.bytes;
   tokens = c.tokens.items;
 }
 
@@ -25,6 +25,6 @@ call_view c = record {
 pub record IsOpenCall (c : Inside) : Type 0 where
   pub valid : IsDefinition c.definition
   pub counted : c.count ≤ length c.args.items
-  pub nested : c.parentheses ≤ length c.bytes.items
+  pub nested : c.parentheses ≤ length c.bytes
   pub done : AllByRecursion IsArg (call_view c).done
   pub tokens : AllByRecursion IsDefinition (call_view c).tokens

@@ -17,9 +17,9 @@ use crate::role::{ListEnd, Role};
 use m4_builtins::args::Arg;
 use m4_builtins::place::Place;
 use m4_input::input::Input;
-use m4_state::append::append_front;
 use m4_state::bytes::Bytes;
 use m4_state::definition::Def;
+use m4_state::text_buffer::TextBuffer;
 use std::alloc::{AllocError, Global};
 use std::marker::Model;
 
@@ -35,7 +35,7 @@ pub struct OpenCall {
     count: usize,
     parentheses: usize,
     begun: bool,
-    bytes: Vec<u8>,
+    bytes: TextBuffer,
     tokens: Vec<Def>,
     is_large: bool,
 }
@@ -52,9 +52,9 @@ impl Model for OpenCall {
     ghost invariant = { IsOpenCall };
 }
 
-/// The greatest length of an argument that has a buffer of its own, which is kept for the next argument. A longer one
-/// is shared, and is dropped when its call was made. To copy few bytes takes less time than the memory that sharing
-/// needs.
+/// The greatest length of an argument that is copied to where an earlier one was. A longer one takes the memory in which
+/// its bytes were collected, so that it can be shared, and is dropped when its call was made. To copy few bytes takes
+/// less time than the memory that sharing needs.
 const LARGEST_COPIED: usize = 256;
 
 /// Returns whether the text of a definition is too long to be kept for its memory.
@@ -78,12 +78,12 @@ fn drop_large(args: &mut [Arg]) {
     }
 }
 
-/// Returns the argument that was collected, from its bytes and its definitions.
-#[inline(always)]
-fn argument(bytes: Vec<u8>, tokens: Vec<Def>) -> Result<Arg, AllocError>
+/// Returns the argument that was collected, from its bytes and its definitions. No bytes are left.
+fn argument(bytes: &mut TextBuffer, tokens: Vec<Def>) -> Result<Arg, AllocError>
     requires { AllByRecursion IsDefinition tokens.items }
-    ensures value { IfOk result (λ a. a ≡ argument_of bytes.items tokens.items) }
+    ensures value { IfOk result (λ a. a ≡ argument_of bytes.old tokens.items) }
     ensures valid { IfOk result IsArg }
+    ensures empty { OnOk result (bytes.new ≡ []) }
 {
     let mut left = tokens;
     if bytes.is_empty() && left.len() == 1 {
@@ -91,11 +91,12 @@ fn argument(bytes: Vec<u8>, tokens: Vec<Def>) -> Result<Arg, AllocError>
             return Ok(Arg::Definition(definition));
         }
     }
-    let text = if bytes.len() > LARGEST_COPIED {
-        Bytes::from_vec(bytes)?
-    } else {
-        Bytes::from(bytes)
-    };
+    if bytes.len() > LARGEST_COPIED {
+        return Ok(Arg::Text(Bytes::from_vec(bytes.take())?));
+    }
+    let mut text = Bytes::empty();
+    text.copy_text(bytes)?;
+    bytes.clear();
     Ok(Arg::Text(text))
 }
 
@@ -113,7 +114,7 @@ impl OpenCall {
             count: 0,
             parentheses: 0,
             begun: false,
-            bytes: Vec::new(alloc),
+            bytes: TextBuffer::new(alloc),
             tokens: Vec::new(alloc),
             is_large: false,
         }
@@ -126,7 +127,7 @@ impl OpenCall {
         requires within { len ≤ length text.now }
         ensures { OnOk result (self.new ≡ record self.old { definition = definition.now; name = take len text.now }) }
     {
-        let alloc = *self.bytes.allocator();
+        let alloc = self.bytes.alloc();
         self.name.set_front(alloc, text, len)?;
         self.definition.set(definition)
     }
@@ -190,13 +191,13 @@ impl OpenCall {
     /// Drops the memory of all but the first `most` arguments, and of anything large.
     #[inline(never)]
     fn shed_memory(&mut self, most: usize) {
-        let alloc = *self.bytes.allocator();
+        let alloc = self.bytes.alloc();
         self.count = 0;
         self.parentheses = 0;
         self.tokens = Vec::new(alloc);
         self.args.truncate(most);
         drop_large(&mut self.args);
-        self.bytes = Vec::new(alloc);
+        self.bytes = TextBuffer::new(alloc);
         self.definition = Def::Text(Bytes::empty());
         self.is_large = false;
     }
@@ -208,17 +209,17 @@ impl OpenCall {
     }
 
     /// Gives up the memory for arguments, of a call that was made.
-    pub fn give_memory(&mut self) -> (Vec<Arg>, Vec<u8>) {
-        let alloc = *self.bytes.allocator();
+    pub fn give_memory(&mut self) -> (Vec<Arg>, TextBuffer) {
+        let alloc = self.bytes.alloc();
         self.count = 0;
         self.parentheses = 0;
         let args = std::mem::replace(&mut self.args, Vec::new(alloc));
-        let bytes = std::mem::replace(&mut self.bytes, Vec::new(alloc));
+        let bytes = std::mem::replace(&mut self.bytes, TextBuffer::new(alloc));
         (args, bytes)
     }
 
     /// Takes the memory for arguments of a call that was made, if this one has none.
-    pub fn take_memory(&mut self, memory: (Vec<Arg>, Vec<u8>))
+    pub fn take_memory(&mut self, memory: (Vec<Arg>, TextBuffer))
         ensures { self.new ≡ self.old }
     {
         if !self.args.is_empty() {
@@ -291,7 +292,7 @@ impl OpenCall {
             { begun = true; bytes = self.old.bytes ++ take len text.now }) }
     {
         self.begun = true;
-        append_front(&mut self.bytes, text, len)
+        self.bytes.append_front(text, len)
     }
 
     /// Appends a definition to the argument.
@@ -326,15 +327,14 @@ impl OpenCall {
             × (dropped_if_any self.old.place self.old.bytes self.old.tokens
             ≡ warning_if_dropped drops self.old.place)) }
     {
-        let is_large = self.bytes.len() > LARGEST_COPIED;
-        self.is_large |= is_large;
         // Most arguments are short texts, and most find the memory of an earlier one.
-        if !is_large
+        if self.bytes.len() <= LARGEST_COPIED
             && self.tokens.is_empty()
             && self.count < self.args.len()
             && let Arg::Text(kept) = &mut self.args[self.count]
         {
-            kept.put(&mut self.bytes);
+            kept.copy_text(&self.bytes)?;
+            self.bytes.clear();
             self.count += 1;
             self.begun = false;
             return Ok(false);
@@ -342,7 +342,7 @@ impl OpenCall {
         self.end_any_argument()
     }
 
-    /// Ends an argument that has definitions, or is in a place that no earlier one had.
+    /// Ends an argument that has definitions, is large, or is in a place that no earlier one had.
     #[inline(never)]
     #[tactic(auto, using(crate::proofs::Calls::done_valid))]
     fn end_any_argument(&mut self) -> Result<bool, AllocError>
@@ -352,11 +352,11 @@ impl OpenCall {
             ≡ warning_if_dropped drops self.old.place)) }
     {
         let drops = self.drops();
-        let alloc = *self.bytes.allocator();
+        self.is_large |= self.bytes.len() > LARGEST_COPIED;
+        let alloc = self.bytes.alloc();
         let count = self.count;
-        let bytes = std::mem::replace(&mut self.bytes, Vec::new(alloc));
         let tokens = std::mem::replace(&mut self.tokens, Vec::new(alloc));
-        let arg = argument(bytes, tokens)?;
+        let arg = argument(&mut self.bytes, tokens)?;
         if count < self.args.len() {
             self.args[count] = arg;
         } else {

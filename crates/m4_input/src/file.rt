@@ -11,7 +11,7 @@ ghost use Rattle.m4_input.specs.Text.{text_in, text_after, with_text, TakesBlock
 ghost use Rattle.m4_input.specs.Pending.{newlines_in};
 
 use crate::fault::InputFault;
-use m4_state::append::put_before;
+use m4_state::append::{append_in_room, put_before};
 use m4_state::device::{ByteSource, DeviceFault};
 use std::alloc::{AllocError, Global};
 use std::marker::Model;
@@ -73,19 +73,6 @@ fn count_few(bytes: &[u8]) -> u8
         count += u8::from(*byte == b'\n');
     }
     count
-}
-
-/// Appends bytes for which there is room.
-fn append_in_room(bytes: &mut Vec<u8>, more: &[u8])
-    requires { vec_len bytes.old + length more.now ≤ vec_capacity bytes.old }
-    ensures items { bytes.new.items ≡ bytes.old.items ++ more.now }
-    ensures len { vec_len bytes.new ≡ vec_len bytes.old + length more.now }
-    ensures capacity { vec_capacity bytes.old ≤ vec_capacity bytes.new }
-{
-    match bytes.extend_from_slice(more) {
-        Ok(()) => {}
-        Err(AllocError) => unreachable!(),
-    }
 }
 
 /// Makes room for a block at the end, and for pushed texts before the first block. Returns the new position of the

@@ -152,7 +152,8 @@ impl Input {
     #[doc(hidden)]
     #[inline(always)]
     pub fn put_name(&self, name: &mut Bytes) -> Result<(), AllocError>
-        ensures { OnOk result (name.new ≡ name_of self.now.pending) }
+        ensures ok { OnOk result (name.new ≡ name_of self.now.pending) }
+        ensures err { OnErr result (name.new ≡ name.old) }
     {
         match &self.name {
             Some(file) => name.set(file),

@@ -1,7 +1,7 @@
 //! Appends bytes to a vector, and puts them before a place. Most texts of a macro are short, and a call that copies
 //! takes longer than a few bytes do.
 
-ghost use Rattle.std.specs.Prelude.{◌≡◌, ◌≤◌, ◌++◌, ◌-◌, OnOk, OnErr, length, take, drop};
+ghost use Rattle.std.specs.Prelude.{◌≡◌, ◌≤◌, ◌+◌, ◌++◌, ◌-◌, OnOk, OnErr, length, take, drop, vec_len, vec_capacity};
 
 use std::alloc::AllocError;
 
@@ -53,6 +53,19 @@ fn append_piece(out: &mut Vec<u8>, piece: &[u8], len: usize) -> Result<(), Alloc
     out.extend_from_slice(piece)?;
     out.truncate(old + len);
     Ok(())
+}
+
+/// Appends bytes for which there is room.
+pub fn append_in_room(out: &mut Vec<u8>, bytes: &[u8])
+    requires { vec_len out.old + length bytes.now ≤ vec_capacity out.old }
+    ensures items { out.new.items ≡ out.old.items ++ bytes.now }
+    ensures len { vec_len out.new ≡ vec_len out.old + length bytes.now }
+    ensures capacity { vec_capacity out.old ≤ vec_capacity out.new }
+{
+    match out.extend_from_slice(bytes) {
+        Ok(()) => {}
+        Err(AllocError) => unreachable!(),
+    }
 }
 
 /// Puts bytes directly before the place `at`, over those that are there.

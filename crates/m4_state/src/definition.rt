@@ -68,6 +68,11 @@ impl Def {
         ensures ok { OnOk result (self.new ≡ other.now) }
         ensures err { OnErr result (self.new ≡ self.old) }
     {
+        if let Def::Text(text) = self
+            && let Def::Text(others) = other
+        {
+            return text.set(others);
+        }
         *self = other.share()?;
         Ok(())
     }

@@ -28,6 +28,8 @@ mod stack;
 pub mod standard;
 pub mod state;
 mod table;
+#[doc(hidden)]
+pub mod text_buffer;
 pub mod transfer;
 #[doc(hidden)]
 pub mod words;

@@ -5,6 +5,7 @@ use crate::report::joined;
 use crate::shows::shows;
 use m4_state::append::{append, append_front};
 use m4_state::bytes::Bytes;
+use m4_state::text_buffer::TextBuffer;
 use std::alloc::{AllocError, Global};
 
 // A row's name, a text, how many of its bytes are appended, and what is then after `<`.
@@ -35,6 +36,14 @@ fn with_text(alloc: Global, text: &[u8], len: usize) -> Result<Vec<u8>, AllocErr
     Ok(out)
 }
 
+// Appends the first bytes of a text to a buffer.
+fn with_buffer(alloc: Global, text: &[u8], len: usize) -> Result<Vec<u8>, AllocError> {
+    let mut out = TextBuffer::new(alloc);
+    out.push(b'<')?;
+    out.append_front(text, len.min(text.len()))?;
+    Ok(out.take())
+}
+
 // The ways in which a text comes to be held.
 #[derive(Clone, Copy)]
 enum Way {
@@ -45,12 +54,15 @@ enum Way {
     Shared,
     SharedSlice,
     SharedFromItsOwn,
-    Put,
-    PutOverItsOwn,
+    CopiedOver,
+    CopiedOverItsOwn,
+    CopiedOverShared,
+    Set,
+    SetOverShared,
     Part,
 }
 
-static WAYS: [Way; 10] = [
+static WAYS: [Way; 13] = [
     Way::Copied,
     Way::Moved,
     Way::MovedToShare,
@@ -58,8 +70,11 @@ static WAYS: [Way; 10] = [
     Way::Shared,
     Way::SharedSlice,
     Way::SharedFromItsOwn,
-    Way::Put,
-    Way::PutOverItsOwn,
+    Way::CopiedOver,
+    Way::CopiedOverItsOwn,
+    Way::CopiedOverShared,
+    Way::Set,
+    Way::SetOverShared,
     Way::Part,
 ];
 
@@ -90,10 +105,17 @@ fn shared_or_copied(text: Bytes) -> Result<Bytes, AllocError> {
     }
 }
 
-// Puts a text over another one.
-fn put_over(alloc: Global, mut text: Bytes, bytes: &[u8]) -> Result<Bytes, AllocError> {
-    let mut vector = Vec::from_slice(alloc, bytes)?;
-    text.put(&mut vector);
+// Copies the text of a buffer over another one.
+fn copied_over(alloc: Global, mut text: Bytes, bytes: &[u8]) -> Result<Bytes, AllocError> {
+    let mut buffer = TextBuffer::new(alloc);
+    buffer.append(bytes)?;
+    text.copy_text(&buffer)?;
+    Ok(text)
+}
+
+// Sets one text to another.
+fn set_to(mut text: Bytes, other: &Bytes) -> Result<Bytes, AllocError> {
+    text.set(other)?;
     Ok(text)
 }
 
@@ -108,8 +130,14 @@ fn held(alloc: Global, text: &[u8], way: Way) -> Result<Bytes, AllocError> {
         Way::Shared => Bytes::from_vec(buffer)?.share(),
         Way::SharedSlice => shared_or_copied(Bytes::from_vec(buffer)?),
         Way::SharedFromItsOwn => shared_or_copied(Bytes::from(buffer)),
-        Way::Put => put_over(alloc, Bytes::empty(), text),
-        Way::PutOverItsOwn => put_over(alloc, Bytes::from(buffer), text),
+        Way::CopiedOver => copied_over(alloc, Bytes::empty(), text),
+        Way::CopiedOverItsOwn => copied_over(alloc, Bytes::from(buffer), text),
+        Way::CopiedOverShared => copied_over(alloc, Bytes::from_slice(alloc, LONG.as_bytes())?, text),
+        Way::Set => set_to(Bytes::empty(), &Bytes::from_vec(buffer)?),
+        Way::SetOverShared => set_to(
+            Bytes::from_slice(alloc, LONG.as_bytes())?,
+            &Bytes::from_vec(buffer)?,
+        ),
         Way::Part => middle(alloc, text),
     }
 }
@@ -168,6 +196,7 @@ fn first_bytes_are_appended(rt: HostRuntime) {
         let (text, want) = (text.as_bytes(), want.as_bytes());
         shows(&rt, name, want, with_front(rt.alloc(), text, len));
         shows(&rt, name, want, with_text(rt.alloc(), text, len));
+        shows(&rt, name, want, with_buffer(rt.alloc(), text, len));
     }
 }
 
