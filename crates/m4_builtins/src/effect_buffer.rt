@@ -18,11 +18,10 @@ use std::alloc::{AllocError, Global};
 use std::marker::Model;
 
 /// An [`Effect`] that the engine keeps. Calls fill it in turn, so that most of them ask for no memory: a text that is
-/// made is in `buffer` until it is inserted, and mostly it is copied from there (`is_made`). `has_more` is false if
-/// inserting a value is all that is left to do, as after most calls. A definition that is inserted is valid.
+/// made is in `buffer` until it is inserted, and mostly it is copied from there. `has_more` is false if inserting a
+/// value is all that is left to do, as after most calls. A definition that is inserted is valid.
 pub struct EffectBuffer {
-    push: Option<Pushed>,
-    is_made: bool,
+    push: Push,
     buffer: Vec<u8>,
     has_more: bool,
     messages: Vec<u8>,
@@ -30,6 +29,39 @@ pub struct EffectBuffer {
     wrap: Option<Bytes>,
     skip: bool,
     exit: Option<u8>,
+}
+
+/// The value that is inserted before the input.
+#[derive(Drop)]
+enum Push {
+    /// The text in the effect's buffer if it is made, and nothing otherwise.
+    Buffer { is_made: bool },
+    /// A shared text, or a definition.
+    Value(Pushed),
+}
+
+impl Push {
+    ghost use Rattle.m4_builtins.specs.declared.effect_buffer.Push.TheVariants as forms;
+
+    /// Inserts the text in the buffer, or nothing. Hardly any call finds a value here, and otherwise `is_made` is set in
+    /// place: to write all of a `Push` takes longer.
+    #[inline(always)]
+    fn set_made(&mut self, made: bool)
+        ensures { self.new ≡ forms.Buffer made }
+    {
+        match self {
+            Push::Value(_) => self.drop_value(made),
+            Push::Buffer { is_made } => *is_made = made,
+        }
+    }
+
+    /// Does the same, and drops the value that is here.
+    #[inline(never)]
+    fn drop_value(&mut self, is_made: bool)
+        ensures { self.new ≡ forms.Buffer is_made }
+    {
+        *self = Push::Buffer { is_made };
+    }
 }
 
 impl Model for EffectBuffer {
@@ -48,7 +80,6 @@ impl Drop for EffectBuffer {
     fn drop(self) {
         let EffectBuffer {
             push: _push,
-            is_made: _is_made,
             buffer: _buffer,
             has_more: _has_more,
             messages: _messages,
@@ -72,8 +103,7 @@ impl EffectBuffer {
         ensures { result ≡ nothing }
     {
         EffectBuffer {
-            push: None,
-            is_made: false,
+            push: Push::Buffer { is_made: false },
             buffer: Vec::new(alloc),
             has_more: false,
             messages: Vec::new(alloc),
@@ -91,7 +121,6 @@ impl EffectBuffer {
     {
         let EffectBuffer {
             push,
-            is_made,
             buffer,
             has_more: _has_more,
             messages,
@@ -100,10 +129,10 @@ impl EffectBuffer {
             skip,
             exit,
         } = self;
-        let push = if is_made {
-            Some(Pushed::Text(Bytes::from(buffer)))
-        } else {
-            push
+        let push = match push {
+            Push::Buffer { is_made: false } => None,
+            Push::Buffer { is_made: true } => Some(Pushed::Text(Bytes::from(buffer))),
+            Push::Value(value) => Some(value),
         };
         Effect {
             push,
@@ -119,11 +148,7 @@ impl EffectBuffer {
     pub fn clear(&mut self)
         ensures { self.new ≡ nothing }
     {
-        // There is hardly ever one, and the test takes less time than dropping none.
-        if self.push.is_some() {
-            self.push = None;
-        }
-        self.is_made = false;
+        self.push.set_made(false);
         if self.has_more {
             self.clear_more();
         }
@@ -160,7 +185,8 @@ impl EffectBuffer {
     pub fn lend(&mut self, buffer: Vec<u8>)
         ensures { self.new ≡ self.old }
     {
-        if !self.is_made {
+        // Mostly it has no memory, and then there is nothing to move.
+        if buffer.capacity() > 0 && !matches!(self.push, Push::Buffer { is_made: true }) {
             self.buffer = buffer;
         }
     }
@@ -169,10 +195,9 @@ impl EffectBuffer {
     pub fn made_text(&self) -> Option<&[u8]>
         ensures { IfSome result (λ x. self.now.push ≡ Some (pushes.Text x.now)) }
     {
-        if self.is_made {
-            Some(&self.buffer)
-        } else {
-            None
+        match self.push {
+            Push::Buffer { is_made: true } => Some(&self.buffer),
+            Push::Buffer { is_made: false } | Push::Value(_) => None,
         }
     }
 
@@ -182,12 +207,14 @@ impl EffectBuffer {
         ensures valid { IsPushed result }
         ensures rest { self.new ≡ record self.old { push = None } }
     {
-        if self.is_made {
-            self.is_made = false;
-            self.push = None;
-            return Some(Pushed::Text(Bytes::take_from(&mut self.buffer)));
+        match std::mem::replace(&mut self.push, Push::Buffer { is_made: false }) {
+            Push::Buffer { is_made: false } => None,
+            Push::Buffer { is_made: true } => {
+                let text = Bytes::take_from(&mut self.buffer);
+                Some(Pushed::Text(text))
+            }
+            Push::Value(value) => Some(value),
         }
-        self.push.take()
     }
 
     /// Returns the messages to be written.
@@ -248,7 +275,7 @@ impl EffectBuffer {
         ensures { self.new ≡ record self.old { push = Some (pushes.Text text.items) } }
     {
         self.buffer = text;
-        self.is_made = true;
+        self.push.set_made(true);
     }
 
     /// Inserts a copy of a text before the input.
@@ -257,7 +284,7 @@ impl EffectBuffer {
     {
         self.buffer.clear();
         append(&mut self.buffer, text)?;
-        self.is_made = true;
+        self.push.set_made(true);
         Ok(())
     }
 
@@ -281,8 +308,7 @@ impl EffectBuffer {
     {
         match text.shared()? {
             Some(shared) => {
-                self.is_made = false;
-                self.push = Some(Pushed::Text(shared));
+                self.push = Push::Value(Pushed::Text(shared));
                 Ok(())
             }
             None => self.give_copy(text.as_slice()),
@@ -326,12 +352,12 @@ impl EffectBuffer {
         ensures { OnOk result (self.new ≡ record self.old
             { push = Some (pushes.Text (subst text.now name.now list.now (pair_of quotes.entry))) }) }
     {
+        // The text is marked as made first: after the substitution that takes more instructions.
+        self.push.set_made(true);
         self.buffer.clear();
         // The result mostly has about as many bytes.
         self.buffer.reserve(text.len())?;
-        substitute_onto(&mut self.buffer, text, plain, name, list, quotes)?;
-        self.is_made = true;
-        Ok(())
+        substitute_onto(&mut self.buffer, text, plain, name, list, quotes)
     }
 
     /// Inserts the text of an argument before the input: a definition, or none, counts as empty.
@@ -350,8 +376,7 @@ impl EffectBuffer {
         requires { IsDefinition definition }
         ensures { self.new ≡ record self.old { push = Some (pushes.Definition definition) } }
     {
-        self.is_made = false;
-        self.push = Some(Pushed::Definition(definition));
+        self.push = Push::Value(Pushed::Definition(definition));
     }
 
     /// Appends messages.
