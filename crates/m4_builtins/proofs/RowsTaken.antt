@@ -175,9 +175,7 @@ module _ (inner : Inner) (b : Builtin) (list : List Arg) (p : Place) (s t : Stat
       ∙ ap (λ (more : Bool). warned (excess_if more p b) (leaves t e)) is
 
   -- arguments above the most
-  pub acts_warning : (message : List ℕ) (f : Effect) → is_above (most_of b) (length list) ≡ true → message ≡ excess p b
-      → f ≡ record e { messages = message ++ e.messages }
+  pub acts_warning : (f : Effect) → is_above (most_of b) (length list) ≡ true
+      → f ≡ record e { messages = excess p b ++ e.messages }
       → act_unless inner (nat_lt (length list) (least_of b)) b list p s ≡ leaves t f
-  acts_warning message f is same made =
-      acts true is ∙ ap (λ (x : List ℕ). warned x (leaves t e)) (sym same)
-      ∙ ap (leaves t) (sym made)
+  acts_warning f is made = acts true is ∙ ap (leaves t) (sym made)

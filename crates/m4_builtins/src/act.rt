@@ -22,7 +22,7 @@ use crate::ending::{m4exit, m4wrap};
 use crate::eval::eval;
 use crate::fault::BuiltinFault;
 use crate::indirect::{Step, builtin, indir, start};
-use crate::messages::{Warning, warn, warning_line};
+use crate::messages::Warning;
 use crate::naming::{define, defn, popdef, pushdef, undefine};
 use crate::place::Place;
 use crate::printing::{dumpdef, errprint, file, line};
@@ -107,7 +107,7 @@ fn act_builtin<'a>(
     let Row { least, most, .. } = builtin.row();
     if list.len() < least {
         give_though_few(effect, builtin, list)?;
-        warn(effect, place, Warning::TooFew(builtin))?;
+        effect.add_warning(place, Warning::TooFew(builtin))?;
         return Ok(Step::Done);
     }
     let step = row(effect, builtin, list, place, state)?;
@@ -116,8 +116,7 @@ fn act_builtin<'a>(
     }
     match step {
         Step::Done => {
-            let warning = warning_line(effect.alloc(), place, Warning::Excess(builtin))?;
-            effect.add_message_first(warning)?;
+            effect.add_warning_first(place, Warning::Excess(builtin))?;
             Ok(Step::Done)
         }
         Step::On(..) => Ok(step),

@@ -9,7 +9,7 @@ ghost use Rattle.m4_builtins.specs.Branching as spec;
 
 use crate::args::{Arg, argument_at, text_at, text_of};
 use crate::effect_buffer::EffectBuffer;
-use crate::messages::{Warning, warn};
+use crate::messages::Warning;
 use crate::place::Place;
 use crate::substitute::push_quoted;
 use m4_state::builtin::Builtin;
@@ -46,11 +46,11 @@ pub(crate) fn ifelse(
 {
     match list {
         [] | [_] => {}
-        [_, _] => warn(effect, place, Warning::TooFew(Builtin::Ifelse))?,
+        [_, _] => effect.add_warning(place, Warning::TooFew(Builtin::Ifelse))?,
         [..] => {
             effect.give_argument(chosen(list))?;
             if has_extra(list.len()) {
-                warn(effect, place, Warning::Excess(Builtin::Ifelse))?;
+                effect.add_warning(place, Warning::Excess(Builtin::Ifelse))?;
             }
         }
     }

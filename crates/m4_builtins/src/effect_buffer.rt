@@ -5,10 +5,13 @@ ghost use Rattle.std.specs.Prelude.{length, not};
 ghost use Rattle.m4_input.specs.Ascii.{dollar};
 ghost use Rattle.m4_input.specs.Token.{run_length};
 ghost use Rattle.m4_builtins.specs.QuotesView.{pair_of};
+ghost use Rattle.m4_builtins.specs.Warned.{warned_of};
 
 use crate::args::Arg;
 use crate::effect::Effect;
 use crate::fault::BuiltinFault;
+use crate::messages::{Warning, push_warning_line};
+use crate::place::Place;
 use crate::substitute::{plain_len, substitute_onto};
 use m4_input::pushed::Pushed;
 use m4_state::append::append;
@@ -392,11 +395,32 @@ impl EffectBuffer {
         self.messages.extend_from_slice(&messages)
     }
 
-    /// Inserts a message before the others.
-    pub(crate) fn add_message_first(&mut self, message: Vec<u8>) -> Result<(), AllocError>
-        ensures { OnOk result (self.new ≡ record self.old { messages = message.items ++ self.old.messages }) }
+    /// Appends a warning to the messages. Not inlined, since hardly any call warns.
+    #[inline(never)]
+    pub(crate) fn add_warning(
+        &mut self,
+        place: &Place,
+        about: Warning<'_>,
+    ) -> Result<(), AllocError>
+        ensures { OnOk result (self.new ≡ record self.old
+            { messages = self.old.messages ++ warned_of place.now about.entry }) }
     {
-        let mut messages = message;
+        self.has_more = true;
+        push_warning_line(&mut self.messages, place, about)
+    }
+
+    /// Inserts a warning before the messages.
+    #[inline(never)]
+    pub(crate) fn add_warning_first(
+        &mut self,
+        place: &Place,
+        about: Warning<'_>,
+    ) -> Result<(), AllocError>
+        ensures { OnOk result (self.new ≡ record self.old
+            { messages = warned_of place.now about.entry ++ self.old.messages }) }
+    {
+        let mut messages = Vec::new(self.alloc());
+        push_warning_line(&mut messages, place, about)?;
         messages.extend_from_slice(&self.messages)?;
         self.has_more = true;
         self.messages = messages;

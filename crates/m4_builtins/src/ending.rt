@@ -7,7 +7,7 @@ ghost use Rattle.m4_builtins.specs.Ending as spec;
 
 use crate::args::{Arg, text_of};
 use crate::effect_buffer::EffectBuffer;
-use crate::messages::{Warning, warn};
+use crate::messages::Warning;
 use crate::number::{Reading, reading_of};
 use crate::place::Place;
 use crate::substitute::push_joined;
@@ -59,5 +59,5 @@ fn end_by(effect: &mut EffectBuffer, reading: Reading, place: &Place) -> Result<
         Reading::NotNumeric => (1, Warning::NotNumeric(Builtin::M4exit)),
     };
     effect.end_with(code);
-    warn(effect, place, warning)
+    effect.add_warning(place, warning)
 }

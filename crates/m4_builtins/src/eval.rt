@@ -9,7 +9,7 @@ ghost use Rattle.m4_builtins.specs.ReadsAs.{ReadsAs};
 
 use crate::args::{Arg, text_at, text_of};
 use crate::effect_buffer::EffectBuffer;
-use crate::messages::{Warning, warn};
+use crate::messages::Warning;
 use crate::number::number_in;
 use crate::place::Place;
 use m4_eval::blank::is_blank;
@@ -72,7 +72,7 @@ fn radix_in(
     };
     let radix = Radix::new(number);
     if radix.is_none() {
-        warn(effect, place, Warning::OutOfRange)?;
+        effect.add_warning(place, Warning::OutOfRange)?;
     }
     Ok(radix)
 }
@@ -95,7 +95,7 @@ fn width_in(
     match usize::try_from(number) {
         Ok(width) => Ok(Some(width)),
         Err(_negative) => {
-            warn(effect, place, Warning::OutOfRange)?;
+            effect.add_warning(place, Warning::OutOfRange)?;
             Ok(None)
         }
     }
@@ -111,7 +111,7 @@ fn value_in(
     ensures { IfOk result (λ value. ReadsAs (spec.with_expression place.now text.now) value effect.old effect.new) }
 {
     if is_blank(text) {
-        warn(effect, place, Warning::EmptyNumber(Builtin::Eval))?;
+        effect.add_warning(place, Warning::EmptyNumber(Builtin::Eval))?;
         return Ok(Some(0));
     }
     let warning = match evaluate(effect.alloc(), text)? {
@@ -119,6 +119,6 @@ fn value_in(
         Evaluated::DivideByZero => Warning::DivideByZero,
         Evaluated::BadExpression => Warning::BadExpression,
     };
-    warn(effect, place, warning)?;
+    effect.add_warning(place, warning)?;
     Ok(None)
 }

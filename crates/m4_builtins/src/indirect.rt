@@ -5,22 +5,25 @@
 //! length. So these builtins do not make the call themselves: they return a [`Step`], and
 //! [`crate::act::act`] continues in a loop.
 
-ghost use Rattle.std.specs.Prelude.{◌≡◌, ◌<◌, ℕ, IfOk, length};
+ghost use Rattle.std.specs.Prelude.{◌≡◌, ◌<◌, ℕ, IfOk, OnOk, length};
 ghost use Rattle.std.specs.List.{AllByRecursion};
 ghost use Rattle.m4_builtins.specs.Act.{act, goes_on, nothing};
 ghost use Rattle.m4_builtins.specs.Args.{IsArg};
 ghost use Rattle.m4_builtins.specs.Indirect as spec;
+ghost use Rattle.m4_builtins.specs.Messages.{unsupported};
 ghost use Rattle.m4_builtins.specs.Steps.{LeadsTo, IsShorter};
+ghost use Rattle.m4_builtins.specs.Warned.{with_messages};
 
 use crate::args::Arg;
 use crate::effect_buffer::EffectBuffer;
 use crate::fault::BuiltinFault;
-use crate::messages::{Warning, warn};
+use crate::messages::Warning;
 use crate::naming::name_in;
 use crate::place::Place;
 use m4_state::builtin::Builtin;
 use m4_state::definition::Def;
 use m4_state::state::State;
+use std::alloc::AllocError;
 
 /// A call that is finished, or the call that continues it.
 #[derive(Drop)]
@@ -55,10 +58,22 @@ pub(crate) fn start<'a>(
         }
         Def::Builtin(builtin) => Ok(Step::On(*builtin, list)),
         Def::Placeholder(other) => {
-            warn(effect, place, Warning::Unsupported(other.as_slice()))?;
+            warn_of_placeholder(effect, other.as_slice(), place)?;
             Ok(Step::Done)
         }
     }
+}
+
+/// Adds the warning on a placeholder of this name. Not inlined, since hardly any call is one of a placeholder.
+#[inline(never)]
+fn warn_of_placeholder(
+    effect: &mut EffectBuffer,
+    name: &[u8],
+    place: &Place,
+) -> Result<(), AllocError>
+    ensures { OnOk result (effect.new ≡ with_messages effect.old (unsupported place.now name.now)) }
+{
+    effect.add_warning(place, Warning::Unsupported(name))
 }
 
 /// Calls the macro that the first argument names. Manual: "Indirect call of macros".
@@ -78,7 +93,7 @@ pub(crate) fn indir<'a>(
         return Ok(Step::Done);
     };
     let Some(def) = state.top(name) else {
-        warn(effect, place, Warning::UnknownMacro(name))?;
+        effect.add_warning(place, Warning::UnknownMacro(name))?;
         return Ok(Step::Done);
     };
     start(effect, def, name, rest, place, state)
@@ -101,7 +116,7 @@ pub(crate) fn builtin<'a>(
         return Ok(Step::Done);
     };
     let Some(builtin) = Builtin::by_name(name) else {
-        warn(effect, place, Warning::UnknownBuiltin(name))?;
+        effect.add_warning(place, Warning::UnknownBuiltin(name))?;
         return Ok(Step::Done);
     };
     Ok(Step::On(builtin, rest))

@@ -4,7 +4,6 @@ ghost use Rattle.std.specs.Prelude.{◌≡◌, ◌++◌, IfOk, OnOk, codes};
 ghost use Rattle.m4_builtins.specs.Messages.{place_text, error, warning, dropped};
 ghost use Rattle.m4_builtins.specs.Warned.{warned_of};
 
-use crate::effect_buffer::EffectBuffer;
 use crate::fault::BuiltinFault;
 use crate::place::Place;
 use itoa::Buffer;
@@ -18,7 +17,8 @@ pub fn error_message(alloc: Global, place: &Place, text: &[u8]) -> Result<Bytes,
     // exact steps: the complete line
     ensures { IfOk result (λ b. b ≡ error place.now text.now) }
 {
-    let mut line = head(alloc, place, b": ERROR: ")?;
+    let mut line = Vec::new(alloc);
+    push_head(&mut line, place, b": ERROR: ")?;
     line.extend_from_slice(text)?;
     line.extend_from_slice(b"\n")?;
     Ok(Bytes::from(line))
@@ -30,20 +30,9 @@ pub fn dropped_message(alloc: Global, place: &Place) -> Result<Bytes, BuiltinFau
     // exact steps: the complete line
     ensures { IfOk result (λ b. b ≡ dropped place.now) }
 {
-    Ok(Bytes::from(warning_line(alloc, place, Warning::Dropped)?))
-}
-
-/// Adds a warning to the messages of an effect.
-pub(crate) fn warn(
-    effect: &mut EffectBuffer,
-    place: &Place,
-    about: Warning<'_>,
-) -> Result<(), AllocError>
-    ensures { OnOk result (effect.new ≡ record effect.old
-        { messages = effect.old.messages ++ warned_of place.now about.entry }) }
-{
-    let line = warning_line(effect.alloc(), place, about)?;
-    effect.add_messages(line)
+    let mut line = Vec::new(alloc);
+    push_warning_line(&mut line, place, Warning::Dropped)?;
+    Ok(Bytes::from(line))
 }
 
 /// What a warning is about: a builtin of the table, or a name that the input or a frozen file has.
@@ -77,22 +66,22 @@ pub(crate) enum Warning<'a> {
     OutOfRange,
 }
 
-/// Returns the line of a warning.
-pub(crate) fn warning_line(
-    alloc: Global,
+/// Appends the line of a warning.
+pub(crate) fn push_warning_line(
+    messages: &mut Vec<u8>,
     place: &Place,
     about: Warning<'_>,
-) -> Result<Vec<u8>, AllocError>
+) -> Result<(), AllocError>
     // exact steps: the complete line
-    ensures { IfOk result (λ line. line.items ≡ warned_of place.now about.entry) }
+    ensures { OnOk result (messages.new.items ≡ messages.old.items ++ warned_of place.now about.entry) }
 {
     let (before, name, after) = parts_of(about);
-    let mut line = head(alloc, place, b": Warning: ")?;
-    line.extend_from_slice(before)?;
-    line.extend_from_slice(name)?;
-    line.extend_from_slice(after)?;
-    line.push(b'\n')?;
-    Ok(line)
+    push_head(messages, place, b": Warning: ")?;
+    messages.extend_from_slice(before)?;
+    messages.extend_from_slice(name)?;
+    messages.extend_from_slice(after)?;
+    messages.push(b'\n')?;
+    Ok(())
 }
 
 /// Returns the text of a warning: a name, with what comes before and after it.
@@ -136,14 +125,13 @@ fn parts_of<'a>(about: Warning<'a>) -> (&'static [u8], &'a [u8], &'static [u8])
     }
 }
 
-/// Returns the start of each message: the program, the place, and the kind of message.
-fn head(alloc: Global, place: &Place, kind: &[u8]) -> Result<Vec<u8>, AllocError>
-    ensures { IfOk result (λ v. v.items ≡ codes "m4" ++ place_text place.now ++ kind.now) }
+/// Appends the start of each message: the program, the place, and the kind of message.
+fn push_head(line: &mut Vec<u8>, place: &Place, kind: &[u8]) -> Result<(), AllocError>
+    ensures { OnOk result (line.new.items ≡ line.old.items ++ codes "m4" ++ place_text place.now ++ kind.now) }
 {
-    let mut line = Vec::from_slice(alloc, b"m4")?;
-    push_place(&mut line, place)?;
-    line.extend_from_slice(kind)?;
-    Ok(line)
+    line.extend_from_slice(b"m4")?;
+    push_place(line, place)?;
+    line.extend_from_slice(kind)
 }
 
 /// Appends the file and the line, or nothing in wrapped text, whose line is 0.

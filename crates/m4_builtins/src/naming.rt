@@ -16,7 +16,7 @@ ghost use Rattle.m4_builtins.specs.Naming as spec;
 use crate::args::{Arg, text_of};
 use crate::effect_buffer::EffectBuffer;
 use crate::fault::BuiltinFault;
-use crate::messages::{Warning, warn};
+use crate::messages::Warning;
 use crate::place::Place;
 use crate::substitute::push_one_quoted;
 use m4_state::builtin::Builtin;
@@ -81,7 +81,7 @@ pub(crate) fn name_in<'a>(
     match list.split_first() {
         Some((Arg::Text(name), rest)) => Ok(Some((name.as_slice(), rest))),
         Some((Arg::Definition(_), _)) => {
-            warn(effect, place, Warning::BadName(builtin))?;
+            effect.add_warning(place, Warning::BadName(builtin))?;
             Ok(None)
         }
         None => Ok(None),
@@ -205,7 +205,7 @@ fn push_text_of(
         None => {}
         Some(Def::Text(defined)) => push_one_quoted(texts, defined.as_slice(), quotes)?,
         Some(Def::Builtin(_)) | Some(Def::Placeholder(_)) => {
-            warn(effect, place, Warning::Dropped)?;
+            effect.add_warning(place, Warning::Dropped)?;
         }
     }
     Ok(())

@@ -8,7 +8,7 @@ ghost use Rattle.m4_builtins.specs.Numeric as spec;
 
 use crate::args::{Arg, text_at};
 use crate::effect_buffer::EffectBuffer;
-use crate::messages::{Warning, warn};
+use crate::messages::Warning;
 use crate::place::Place;
 use crate::substitute::{digits_len, number_of};
 use m4_eval::blank::spaces_len;
@@ -41,6 +41,7 @@ pub(crate) fn reading_of(text: &[u8]) -> Reading
 }
 
 /// Returns the number of the first argument, if it has one. Adds the warning on it to the messages.
+#[inline(always)]
 pub(crate) fn first_number(
     effect: &mut EffectBuffer,
     list: &[Arg],
@@ -69,11 +70,11 @@ pub(crate) fn number_in(
     match reading_of(text) {
         Reading::Number(number) => Ok(Some(number)),
         Reading::Empty => {
-            warn(effect, place, Warning::EmptyNumber(builtin))?;
+            effect.add_warning(place, Warning::EmptyNumber(builtin))?;
             Ok(Some(0))
         }
         Reading::NotNumeric => {
-            warn(effect, place, Warning::NotNumeric(builtin))?;
+            effect.add_warning(place, Warning::NotNumeric(builtin))?;
             Ok(None)
         }
     }

@@ -11,7 +11,7 @@ ghost use Rattle.m4_builtins.specs.Warned.{with_messages};
 use crate::args::{Arg, text_of};
 use crate::effect_buffer::EffectBuffer;
 use crate::fault::BuiltinFault;
-use crate::messages::{Warning, warn};
+use crate::messages::Warning;
 use crate::place::Place;
 use crate::substitute::{push_joined, push_one_quoted};
 use itoa::Buffer;
@@ -93,7 +93,7 @@ fn push_warning(
     if def.is_some() {
         return Ok(());
     }
-    warn(effect, place, Warning::UnknownMacro(name))
+    effect.add_warning(place, Warning::UnknownMacro(name))
 }
 
 /// Appends the lines of names that have a definition.

@@ -19,8 +19,8 @@ returns-then-not-is_above-clause-leads c =
     (sym (acts_plainly (goes_on list p s) b list p s enough few)) c.in_ok-step.ensures.leads
 
 -- some are above the most
-pub returns-in_ok-add_message_first-in-Done-clause-leads : goal.returns-in_ok-add_message_first-in-Done-clause-leads
-returns-in_ok-add_message_first-in-Done-clause-leads c =
+pub returns-in_ok-add_warning_first-in-Done-clause-leads : goal.returns-in_ok-add_warning_first-in-Done-clause-leads
+returns-in_ok-add_warning_first-in-Done-clause-leads c =
     let b = c.args.builtin in
     let list = c.args.list.now in
     let p = c.args.place.now in
@@ -30,5 +30,4 @@ returns-in_ok-add_message_first-in-Done-clause-leads c =
     let does = subst (λ step. LeadsTo (row (goes_on list p s) b list p s) p c.row-2.new.state c.row-2.new.effect step)
     c.in-Done.is c.in_ok-step.ensures.leads in
     acts_warning (goes_on list p s) b list p s c.row-2.new.state c.row-2.new.effect enough does
-    c.in_ok-warning-in-Done.warning.items c.add_message_first.new.self more c.in_ok-warning-in-Done.ensures
-    c.in_ok-add_message_first-in-Done.ensures
+    c.add_warning_first.new.self more c.in_ok-add_warning_first-in-Done.ensures

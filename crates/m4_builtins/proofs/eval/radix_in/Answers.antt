@@ -11,7 +11,7 @@ use Rattle.m4_builtins.specs.ReadsAs.{ReadsAs}
 use Rattle.m4_builtins.specs.Warned.{with_messages}
 use Rattle.m4_builtins.proofs.EvalReads.{radix_of_number, radix_kept, radix_lost, radix_read}
 use Rattle.m4_builtins.proofs.eval.radix_in.Goals as goal
-use Rattle.m4_builtins.proofs.eval.radix_in.Goals.{then-is_none+in_ok-warn}
+use Rattle.m4_builtins.proofs.eval.radix_in.Goals.{then-is_none+in_ok-add_warning}
 use Rattle.m4_builtins.proofs.eval.radix_in.Goals.{else-is_none}
 
 pub returns : goal.returns
@@ -26,7 +26,7 @@ returns c =
     let warned : c.number_in.new.effect ≡ with_messages c.args.effect.now (reading_warning p Eval (reading_of text)) = c.in_ok-number.ensures.warns in
     let after_it : ReadsAs (radix_of_number p n) (radix_at n) c.number_in.new.effect c.if-is_none.effect =
     elim c.if-is_none.branch [
-      | then-is_none+in_ok-warn w ↦ radix_lost p _ _ (radix_at n) (search rules) (search rules)
+      | then-is_none+in_ok-add_warning w ↦ radix_lost p _ _ (radix_at n) (search rules) (search rules)
       | else-is_none w ↦ radix_kept p _ _ (radix_at n) (search rules) (search rules)
     ] in
     subst (λ o. ReadsAs (with_radix p text) o c.args.effect.now c.if-is_none.effect) (sym radix)
