@@ -46,8 +46,8 @@ enum Push {
 impl Push {
     ghost use Rattle.m4_builtins.specs.declared.effect_buffer.Push.TheVariants as forms;
 
-    /// Inserts the text in the buffer, or nothing. Hardly any call finds a value here, and otherwise `is_made` is set in
-    /// place: to write all of a `Push` takes longer.
+    /// Inserts the text in the buffer, or nothing. Hardly any call finds a value here, and otherwise `is_made` is set
+    /// in place: to write all of a `Push` takes longer.
     #[inline(always)]
     fn set_made(&mut self, made: bool)
         ensures { self.new ≡ forms.Buffer made }

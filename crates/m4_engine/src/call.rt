@@ -52,9 +52,9 @@ impl Model for OpenCall {
     ghost invariant = { IsOpenCall };
 }
 
-/// The greatest length of an argument that is copied to where an earlier one was. A longer one takes the memory in which
-/// its bytes were collected, so that it can be shared, and is dropped when its call was made. To copy few bytes takes
-/// less time than the memory that sharing needs.
+/// The greatest length of an argument that is copied to where an earlier one was. A longer one takes the memory in
+/// which its bytes were collected, so that it can be shared, and is dropped when its call was made. To copy few bytes
+/// takes less time than the memory that sharing needs.
 const LARGEST_COPIED: usize = 256;
 
 /// Returns whether the text of a definition is too long to be kept for its memory.

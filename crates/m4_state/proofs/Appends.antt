@@ -49,8 +49,8 @@ halves_written piece old front back l o f b =
     let of_front : length front ≡ 16 = ap length f ∙ length-take-le 16 piece (omega arith) in
     let of_rest : length (drop 16 old) ≡ 14 = length-drop 16 old ∙ ap (λ (n : ℕ). n - 16) o in
     let of_both : length (front ++ drop 16 old) ≡ 30 =
-      length-append front (drop 16 old) ∙ ap (λ (n : ℕ). n + length (drop 16 old)) of_front
-      ∙ ap (λ (n : ℕ). 16 + n) of_rest in
+    length-append front (drop 16 old) ∙ ap (λ (n : ℕ). n + length (drop 16 old)) of_front
+    ∙ ap (λ (n : ℕ). 16 + n) of_rest in
     ap (λ (n : ℕ). take (n - 16) (front ++ drop 16 old) ++ back) of_both
     ∙ ap (λ (x : List ℕ). x ++ back) (take-append-le 14 front (drop 16 old) (omega arith))
     ∙ ap (λ (x : List ℕ). take 14 x ++ back) f

@@ -31,8 +31,8 @@ impl Model for TextBuffer {
     ghost invariant = { λ b. b.len ≤ length b.room.items };
 }
 
-/// Writes the first bytes of a text from a place on, as one piece, over what is there. Returns whether there are as many
-/// of both.
+/// Writes the first bytes of a text from a place on, as one piece, over what is there. Returns whether there are as
+/// many of both.
 #[inline(always)]
 fn write_piece(room: &mut [u8], at: usize, text: &[u8]) -> bool
     requires { at ≤ length room.old }

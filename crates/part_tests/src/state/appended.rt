@@ -132,7 +132,11 @@ fn held(alloc: Global, text: &[u8], way: Way) -> Result<Bytes, AllocError> {
         Way::SharedFromItsOwn => shared_or_copied(Bytes::from(buffer)),
         Way::CopiedOver => copied_over(alloc, Bytes::empty(), text),
         Way::CopiedOverItsOwn => copied_over(alloc, Bytes::from(buffer), text),
-        Way::CopiedOverShared => copied_over(alloc, Bytes::from_slice(alloc, LONG.as_bytes())?, text),
+        Way::CopiedOverShared => copied_over(
+            alloc,
+            Bytes::from_slice(alloc, LONG.as_bytes())?,
+            text,
+        ),
         Way::Set => set_to(Bytes::empty(), &Bytes::from_vec(buffer)?),
         Way::SetOverShared => set_to(
             Bytes::from_slice(alloc, LONG.as_bytes())?,

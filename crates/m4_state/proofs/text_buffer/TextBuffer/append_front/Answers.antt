@@ -10,5 +10,5 @@ returns-then-write_piece-clause-ok c =
     let new = c.write_piece.new.room in
     ap (take (c.self.inside.len + c.args.len)) (with_items_is room new (c.write_piece.ensures.len ∙ c.deref_mut.ensures.len))
     ∙ front_written room.items new c.args.text.now c.self.inside.len c.args.len (search rules) (search rules)
-      (search (rules, c.if-write_piece.ensures.written refl))
+    (search (rules, c.if-write_piece.ensures.written refl))
     ∙ ap (λ (x : List ℕ). x ++ take c.args.len c.args.text.now) c.self.view_is

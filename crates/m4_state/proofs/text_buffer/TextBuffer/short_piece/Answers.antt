@@ -11,5 +11,5 @@ found (Some x) L P m = m
 pub returns-clause-front : goal.returns-clause-front
 returns-clause-front c =
     IfSome_then c.first_chunk.result (found c.first_chunk.result _ _ c.first_chunk.ensures.cases) (λ piece p.
-      front_of_piece c.args.self.now c.deref.result.now piece.now c.self.inside.len (search rules) (search rules)
-        (search rules) p.same)
+    front_of_piece c.args.self.now c.deref.result.now piece.now c.self.inside.len (search rules) (search rules)
+    (search rules) p.same)
