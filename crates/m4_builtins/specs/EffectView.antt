@@ -24,7 +24,7 @@ inserted (Value value) text = Some value
 
 abbrev pub effect_view : Inside → Effect
 effect_view e = record {
-  push = inserted e.push e.buffer.items;
+  push = inserted e.push e.buffer;
   messages = e.messages.items;
   output = e.output.items;
   wrap = e.wrap;

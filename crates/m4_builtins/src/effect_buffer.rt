@@ -14,9 +14,9 @@ use crate::messages::{Warning, push_warning_line};
 use crate::place::Place;
 use crate::substitute::{plain_len, substitute_onto};
 use m4_input::pushed::Pushed;
-use m4_state::append::append;
 use m4_state::bytes::{Bytes, SHORT};
 use m4_state::definition::Def;
+use m4_state::text_buffer::TextBuffer;
 use std::alloc::{AllocError, Global};
 use std::marker::Model;
 
@@ -25,7 +25,7 @@ use std::marker::Model;
 /// value is all that is left to do, as after most calls. A definition that is inserted is valid.
 pub struct EffectBuffer {
     push: Push,
-    buffer: Vec<u8>,
+    buffer: TextBuffer,
     has_more: bool,
     messages: Vec<u8>,
     output: Vec<u8>,
@@ -107,7 +107,7 @@ impl EffectBuffer {
     {
         EffectBuffer {
             push: Push::Buffer { is_made: false },
-            buffer: Vec::new(alloc),
+            buffer: TextBuffer::new(alloc),
             has_more: false,
             messages: Vec::new(alloc),
             output: Vec::new(alloc),
@@ -124,7 +124,7 @@ impl EffectBuffer {
     {
         let EffectBuffer {
             push,
-            buffer,
+            mut buffer,
             has_more: _has_more,
             messages,
             output,
@@ -134,7 +134,7 @@ impl EffectBuffer {
         } = self;
         let push = match push {
             Push::Buffer { is_made: false } => None,
-            Push::Buffer { is_made: true } => Some(Pushed::Text(Bytes::from(buffer))),
+            Push::Buffer { is_made: true } => Some(Pushed::Text(Bytes::take_from(&mut buffer))),
             Push::Value(value) => Some(value),
         };
         Effect {
@@ -181,7 +181,7 @@ impl EffectBuffer {
 
     /// Returns whether its buffer has memory for a text.
     pub fn has_memory(&self) -> bool {
-        self.buffer.capacity() > 0
+        self.buffer.has_memory()
     }
 
     /// Gives it memory for the next text that is made: that of a buffer whose contents are discarded.
@@ -190,7 +190,7 @@ impl EffectBuffer {
     {
         // Mostly it has no memory, and then there is nothing to move.
         if buffer.capacity() > 0 && !matches!(self.push, Push::Buffer { is_made: true }) {
-            self.buffer = buffer;
+            self.buffer = TextBuffer::from(buffer);
         }
     }
 
@@ -199,7 +199,7 @@ impl EffectBuffer {
         ensures { IfSome result (λ x. self.now.push ≡ Some (pushes.Text x.now)) }
     {
         match self.push {
-            Push::Buffer { is_made: true } => Some(&self.buffer),
+            Push::Buffer { is_made: true } => Some(self.buffer.as_slice()),
             Push::Buffer { is_made: false } | Push::Value(_) => None,
         }
     }
@@ -258,24 +258,24 @@ impl EffectBuffer {
 
     /// Returns the allocator of the effect's texts.
     pub(crate) fn alloc(&self) -> Global {
-        *self.buffer.allocator()
+        self.buffer.alloc()
     }
 
     /// Returns an empty buffer for a text that is then inserted by `give`.
-    pub(crate) fn buffer(&mut self) -> Vec<u8>
+    pub(crate) fn buffer(&mut self) -> TextBuffer
         requires { self.old ≡ nothing }
-        ensures empty { result.items ≡ [] }
+        ensures empty { result ≡ [] }
         ensures stays { self.new ≡ nothing }
     {
         let alloc = self.alloc();
-        let mut buffer = std::mem::replace(&mut self.buffer, Vec::new(alloc));
+        let mut buffer = std::mem::replace(&mut self.buffer, TextBuffer::new(alloc));
         buffer.clear();
         buffer
     }
 
     /// Inserts a text before the input.
-    pub(crate) fn give(&mut self, text: Vec<u8>)
-        ensures { self.new ≡ record self.old { push = Some (pushes.Text text.items) } }
+    pub(crate) fn give(&mut self, text: TextBuffer)
+        ensures { self.new ≡ record self.old { push = Some (pushes.Text text) } }
     {
         self.buffer = text;
         self.push.set_made(true);
@@ -286,7 +286,7 @@ impl EffectBuffer {
         ensures { OnOk result (self.new ≡ record self.old { push = Some (pushes.Text text.now) }) }
     {
         self.buffer.clear();
-        append(&mut self.buffer, text)?;
+        self.buffer.append(text)?;
         self.push.set_made(true);
         Ok(())
     }
@@ -297,9 +297,11 @@ impl EffectBuffer {
     pub(crate) fn give_shared(&mut self, text: &Bytes) -> Result<(), AllocError>
         ensures { OnOk result (self.new ≡ record self.old { push = Some (pushes.Text text.now) }) }
     {
-        let bytes = text.as_slice();
-        if bytes.len() <= SHORT {
-            return self.give_copy(bytes);
+        if text.as_slice().len() <= SHORT {
+            self.buffer.clear();
+            self.buffer.append_bytes(text)?;
+            self.push.set_made(true);
+            return Ok(());
         }
         self.give_slice(text)
     }
@@ -358,8 +360,6 @@ impl EffectBuffer {
         // The text is marked as made first: after the substitution that takes more instructions.
         self.push.set_made(true);
         self.buffer.clear();
-        // The result mostly has about as many bytes.
-        self.buffer.reserve(text.len())?;
         substitute_onto(&mut self.buffer, text, plain, name, list, quotes)
     }
 
@@ -436,18 +436,13 @@ impl EffectBuffer {
     }
 
     /// Saves a text until all input is read. Of a short one the memory is kept.
-    pub(crate) fn save(&mut self, text: Vec<u8>) -> Result<(), AllocError>
+    pub(crate) fn save(&mut self, mut text: TextBuffer)
         requires { self.old ≡ nothing }
-        ensures { OnOk result (self.new ≡ record self.old { wrap = Some text.items }) }
+        ensures { self.new ≡ record self.old { wrap = Some text } }
     {
         self.has_more = true;
-        if text.len() > SHORT {
-            self.wrap = Some(Bytes::from(text));
-        } else {
-            self.wrap = Some(Bytes::from_slice(self.alloc(), &text)?);
-            self.buffer = text;
-        }
-        Ok(())
+        self.wrap = Some(Bytes::take_from(&mut text));
+        self.buffer = text;
     }
 
     /// Skips the rest of the line.

@@ -22,7 +22,8 @@ pub(crate) fn m4wrap(effect: &mut EffectBuffer, list: &[Arg]) -> Result<(), Allo
 {
     let mut text = effect.buffer();
     push_joined(&mut text, list, b' ')?;
-    effect.save(text)
+    effect.save(text);
+    Ok(())
 }
 
 /// Ends the run with a code: 0 if there is no argument, and 1 with a warning if the argument is no code.

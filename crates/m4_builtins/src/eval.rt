@@ -17,6 +17,7 @@ use m4_eval::digits::in_radix;
 use m4_eval::evaluate::{Evaluated, evaluate};
 use m4_eval::radix::Radix;
 use m4_state::builtin::Builtin;
+use m4_state::text_buffer::TextBuffer;
 use std::alloc::AllocError;
 
 /// Expands to the value of the first argument, in the radix of the second one, with at least as many
@@ -26,9 +27,9 @@ pub(crate) fn eval(effect: &mut EffectBuffer, list: &[Arg], place: &Place) -> Re
     requires { effect.old ≡ nothing }
     ensures { OnOk result (effect.new ≡ spec.eval list.now place.now) }
 {
-    let buffer = effect.buffer();
+    let buffer = effect.buffer().take();
     if let Some(digits) = digits_in(effect, buffer, list, place)? {
-        effect.give(digits);
+        effect.give(TextBuffer::from(digits));
     }
     Ok(())
 }

@@ -23,6 +23,7 @@ use m4_state::builtin::Builtin;
 use m4_state::bytes::Bytes;
 use m4_state::definition::Def;
 use m4_state::state::State;
+use m4_state::text_buffer::TextBuffer;
 use std::alloc::AllocError;
 
 /// Defines the first argument, a name, as the second one. Manual: "Defining a macro".
@@ -174,10 +175,10 @@ fn push_texts(
     list: &[Arg],
     place: &Place,
     state: &State,
-    texts: &mut Vec<u8>,
+    texts: &mut TextBuffer,
 ) -> Result<(), BuiltinFault>
-    ensures texts { OnOk result (texts.new.items
-        ≡ texts.old.items ++ flat_map (spec.text_given state.now.quotes) (spec.tops_of state.now list.now)) }
+    ensures texts { OnOk result (texts.new
+        ≡ texts.old ++ flat_map (spec.text_given state.now.quotes) (spec.tops_of state.now list.now)) }
     ensures warns { OnOk result (effect.new ≡ with_messages effect.old
         (flat_map (spec.left_out place.now) (spec.tops_of state.now list.now))) }
 {
@@ -194,9 +195,9 @@ fn push_text_of(
     def: Option<&Def>,
     place: &Place,
     quotes: (&[u8], &[u8]),
-    texts: &mut Vec<u8>,
+    texts: &mut TextBuffer,
 ) -> Result<(), BuiltinFault>
-    ensures texts { OnOk result (texts.new.items ≡ texts.old.items ++ spec.text_given (pair_of quotes.entry)
+    ensures texts { OnOk result (texts.new ≡ texts.old ++ spec.text_given (pair_of quotes.entry)
         (option_copied def.entry)) }
     ensures warns { OnOk result (effect.new ≡ with_messages effect.old
         (spec.left_out place.now (option_copied def.entry))) }

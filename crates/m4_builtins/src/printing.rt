@@ -18,6 +18,7 @@ use itoa::Buffer;
 use m4_state::bytes::Bytes;
 use m4_state::definition::Def;
 use m4_state::state::State;
+use m4_state::text_buffer::TextBuffer;
 use std::alloc::{AllocError, Global};
 
 /// Shows the definitions of its arguments, or of all names if it has none, one line each in byte order of
@@ -37,9 +38,9 @@ pub(crate) fn dumpdef(
     let mut names = names_shown(alloc, list, state)?;
     push_warnings(effect, names.as_slice(), place, state)?;
     names.sort_unstable_by(|a, b| a.as_slice().cmp(b.as_slice()));
-    let mut lines = Vec::new(alloc);
+    let mut lines = TextBuffer::new(alloc);
     push_lines(names.as_slice(), state, &mut lines)?;
-    effect.add_messages(lines)?;
+    effect.add_messages(lines.take())?;
     Ok(())
 }
 
@@ -97,8 +98,8 @@ fn push_warning(
 }
 
 /// Appends the lines of names that have a definition.
-fn push_lines(names: &[Bytes], state: &State, messages: &mut Vec<u8>) -> Result<(), AllocError>
-    ensures { OnOk result (messages.new.items ≡ messages.old.items ++ spec.lines_of names.now state.now) }
+fn push_lines(names: &[Bytes], state: &State, messages: &mut TextBuffer) -> Result<(), AllocError>
+    ensures { OnOk result (messages.new ≡ messages.old ++ spec.lines_of names.now state.now) }
 {
     for name in names {
         let name = name.as_slice();
@@ -112,24 +113,27 @@ fn push_line(
     name: &[u8],
     def: Option<&Def>,
     quotes: (&[u8], &[u8]),
-    messages: &mut Vec<u8>,
+    messages: &mut TextBuffer,
 ) -> Result<(), AllocError>
-    ensures { OnOk result (messages.new.items
-        ≡ messages.old.items ++ spec.line_shown (pair_of quotes.entry) name.now (option_copied def.entry)) }
+    ensures { OnOk result (messages.new
+        ≡ messages.old ++ spec.line_shown (pair_of quotes.entry) name.now (option_copied def.entry)) }
 {
     let Some(def) = def else {
         return Ok(());
     };
-    messages.extend_from_slice(name)?;
-    messages.extend_from_slice(b":\t")?;
+    messages.append(name)?;
+    messages.append(b":\t")?;
     push_shown(def, quotes, messages)?;
-    messages.push(b'\n')?;
-    Ok(())
+    messages.push(b'\n')
 }
 
 /// Appends a definition as it is shown.
-fn push_shown(def: &Def, quotes: (&[u8], &[u8]), messages: &mut Vec<u8>) -> Result<(), AllocError>
-    ensures { OnOk result (messages.new.items ≡ messages.old.items ++ spec.shown (pair_of quotes.entry) def.now) }
+fn push_shown(
+    def: &Def,
+    quotes: (&[u8], &[u8]),
+    messages: &mut TextBuffer,
+) -> Result<(), AllocError>
+    ensures { OnOk result (messages.new ≡ messages.old ++ spec.shown (pair_of quotes.entry) def.now) }
 {
     match def {
         Def::Text(text) => push_one_quoted(messages, text.as_slice(), quotes),
@@ -139,13 +143,12 @@ fn push_shown(def: &Def, quotes: (&[u8], &[u8]), messages: &mut Vec<u8>) -> Resu
 }
 
 /// Appends a name between angle brackets.
-fn push_bracketed(name: &[u8], messages: &mut Vec<u8>) -> Result<(), AllocError>
-    ensures { OnOk result (messages.new.items ≡ messages.old.items ++ spec.bracketed name.now) }
+fn push_bracketed(name: &[u8], messages: &mut TextBuffer) -> Result<(), AllocError>
+    ensures { OnOk result (messages.new ≡ messages.old ++ spec.bracketed name.now) }
 {
     messages.push(b'<')?;
-    messages.extend_from_slice(name)?;
-    messages.push(b'>')?;
-    Ok(())
+    messages.append(name)?;
+    messages.push(b'>')
 }
 
 /// Writes the arguments, joined by spaces, to the messages. Manual: "Printing error messages".
@@ -153,9 +156,9 @@ pub(crate) fn errprint(effect: &mut EffectBuffer, list: &[Arg]) -> Result<(), Al
     requires { effect.old ≡ nothing }
     ensures { OnOk result (effect.new ≡ spec.errprint list.now) }
 {
-    let mut text = Vec::new(effect.alloc());
+    let mut text = effect.buffer();
     push_joined(&mut text, list, b' ')?;
-    effect.add_messages(text)
+    effect.add_messages(text.take())
 }
 
 /// Expands to the name of the input between quotes; to an empty one in wrapped text, whose line is 0.

@@ -13,9 +13,9 @@ ghost use Rattle.m4_builtins.specs.Numbers.{IsNumber};
 use crate::args::{Arg, Args, text_of};
 use crate::fault::BuiltinFault;
 use itoa::Buffer;
-use m4_state::append::{append, append_front};
 use m4_state::bytes::Bytes;
 use m4_state::lanes::{LANES, len_before};
+use m4_state::text_buffer::TextBuffer;
 use std::alloc::{AllocError, Global};
 
 /// Returns a text with the name and the arguments of a call substituted, by the current quotes. Takes
@@ -31,7 +31,7 @@ pub fn substitute(
     // exact steps: the text with the arguments substituted
     ensures { IfOk result (λ b. b ≡ subst text.now args.now.name args.now.list (pair_of quotes.entry)) }
 {
-    let mut out = Vec::with_capacity(alloc, text.len())?;
+    let mut out = TextBuffer::new(alloc);
     substitute_onto(
         &mut out,
         text,
@@ -40,7 +40,7 @@ pub fn substitute(
         args.list.as_slice(),
         quotes,
     )?;
-    Ok(Bytes::from(out))
+    Ok(Bytes::from(out.take()))
 }
 
 /// Returns whether a text has no dollar, so that it is its own expansion.
@@ -55,7 +55,7 @@ pub fn is_plain(text: &[u8]) -> bool
 /// Appends a text with the name and the arguments of a call substituted, as [`substitute`] does. The text has so many
 /// bytes before its first dollar.
 pub(crate) fn substitute_onto(
-    out: &mut Vec<u8>,
+    out: &mut TextBuffer,
     text: &[u8],
     plain: usize,
     name: &[u8],
@@ -65,7 +65,7 @@ pub(crate) fn substitute_onto(
     requires count { plain ≡ run_length (λ b. not (b == dollar)) text.now }
     requires within { plain ≤ length text.now }
     // exact steps: the text with the arguments substituted
-    ensures { OnOk result (out.new.items ≡ out.old.items ++ subst text.now name.now list.now (pair_of quotes.entry)) }
+    ensures { OnOk result (out.new ≡ out.old ++ subst text.now name.now list.now (pair_of quotes.entry)) }
 {
     let mut rest = text;
     let mut before = plain;
@@ -80,7 +80,7 @@ pub(crate) fn substitute_onto(
 /// the text.
 #[inline(always)]
 fn push_front<'a>(
-    out: &mut Vec<u8>,
+    out: &mut TextBuffer,
     text: &'a [u8],
     plain: usize,
     name: &[u8],
@@ -89,11 +89,11 @@ fn push_front<'a>(
 ) -> Result<&'a [u8], AllocError>
     requires count { plain ≡ run_length (λ b. not (b == dollar)) text.now }
     requires within { plain ≤ length text.now }
-    ensures pushed { IfOk result (λ rest. out.new.items ++ subst rest.now name.now list.now (pair_of quotes.entry)
-        ≡ out.old.items ++ subst text.now name.now list.now (pair_of quotes.entry)) }
+    ensures pushed { IfOk result (λ rest. out.new ++ subst rest.now name.now list.now (pair_of quotes.entry)
+        ≡ out.old ++ subst text.now name.now list.now (pair_of quotes.entry)) }
     ensures shorter { IfOk result (λ rest. 0 < length text.now → length rest.now < length text.now) }
 {
-    append_front(out, text, plain)?;
+    push_plain(out, text, plain)?;
     let from_dollar = text.split_at(plain).1;
     match from_dollar.split_first() {
         Some((_, after)) => {
@@ -102,6 +102,18 @@ fn push_front<'a>(
         }
         None => Ok(from_dollar),
     }
+}
+
+/// Appends the first `len` bytes of a text. A byte alone, as before many dollars, takes no call.
+#[inline(always)]
+fn push_plain(out: &mut TextBuffer, text: &[u8], len: usize) -> Result<(), AllocError>
+    requires { len ≤ length text.now }
+    ensures { OnOk result (out.new ≡ out.old ++ take len text.now) }
+{
+    if len <= 1 {
+        return out.append(text.split_at(len).0);
+    }
+    out.append_front(text, len)
 }
 
 /// Counts the bytes before the first dollar, sixteen at a time if there are as many. The last sixteen may overlap those
@@ -141,7 +153,7 @@ fn plain_len_by_bytes(bytes: &[u8]) -> usize
 
 /// Appends the replacement of a dollar; returns how many of the following bytes it used.
 fn push_dollar(
-    out: &mut Vec<u8>,
+    out: &mut TextBuffer,
     after: &[u8],
     name: &[u8],
     list: &[Arg],
@@ -149,7 +161,7 @@ fn push_dollar(
 ) -> Result<usize, AllocError>
     ensures used { IfOk result (λ n. n ≡ (after_dollar name.now (map text_of_arg list.now)
         (pair_of quotes.entry) after.now).1) }
-    ensures text { OnOk result (out.new.items ≡ out.old.items
+    ensures text { OnOk result (out.new ≡ out.old
         ++ (after_dollar name.now (map text_of_arg list.now) (pair_of quotes.entry) after.now).0) }
     ensures within { IfOk result (λ n. n ≤ length after.now) }
 {
@@ -239,47 +251,62 @@ pub(crate) fn number_of(digits: &[u8]) -> Option<usize>
 
 /// Appends the argument with a number, or the name for 0; nothing if the number is above their count.
 fn push_numbered(
-    out: &mut Vec<u8>,
+    out: &mut TextBuffer,
     number: Option<usize>,
     name: &[u8],
     list: &[Arg],
 ) -> Result<(), AllocError>
     ensures { (m : ℕ) → IsNumber number m
-        → OnOk result (out.new.items ≡ out.old.items ++ nth_text name.now (map text_of_arg list.now) m) }
+        → OnOk result (out.new ≡ out.old ++ nth_text name.now (map text_of_arg list.now) m) }
 {
     let count = list.len();
     let Some(n) = number else {
         return Ok(());
     };
     if n == 0 {
-        append(out, name)?;
+        out.append(name)?;
     } else if n <= count {
-        append(out, text_of(&list[n - 1]))?;
+        push_argument(out, &list[n - 1])?;
     }
     Ok(())
 }
 
+/// Appends an argument as text: a definition counts as empty.
+#[inline(always)]
+fn push_argument(out: &mut TextBuffer, arg: &Arg) -> Result<(), AllocError>
+    ensures { OnOk result (out.new ≡ out.old ++ text_of_arg arg.now) }
+{
+    match arg {
+        Arg::Text(text) => out.append_bytes(text),
+        Arg::Definition(_) => Ok(()),
+    }
+}
+
 /// Appends a count in decimal.
-fn push_count(out: &mut Vec<u8>, count: usize) -> Result<(), AllocError>
-    ensures { OnOk result (out.new.items ≡ out.old.items ++ decimal count) }
+fn push_count(out: &mut TextBuffer, count: usize) -> Result<(), AllocError>
+    ensures { OnOk result (out.new ≡ out.old ++ decimal count) }
 {
     let mut buffer = Buffer::new();
-    out.extend_from_slice(buffer.format(count).as_bytes())
+    out.append(buffer.format(count).as_bytes())
 }
 
 /// Appends the arguments, with a separator between any two of them. Not inlined, so that a text with other dollars does
 /// not prepare its loop.
 #[inline(never)]
 #[tactic(auto, using(crate::proofs::Joins::joined_step))]
-pub(crate) fn push_joined(out: &mut Vec<u8>, args: &[Arg], separator: u8) -> Result<(), AllocError>
-    ensures { OnOk result (out.new.items ≡ out.old.items ++ joined_by (separator ∷ []) (texts_of args.now)) }
+pub(crate) fn push_joined(
+    out: &mut TextBuffer,
+    args: &[Arg],
+    separator: u8,
+) -> Result<(), AllocError>
+    ensures { OnOk result (out.new ≡ out.old ++ joined_by (separator ∷ []) (texts_of args.now)) }
 {
     let mut first = true;
     for arg in args {
         if !first {
             out.push(separator)?;
         }
-        append(out, text_of(arg))?;
+        push_argument(out, arg)?;
         first = false;
     }
     Ok(())
@@ -289,11 +316,11 @@ pub(crate) fn push_joined(out: &mut Vec<u8>, args: &[Arg], separator: u8) -> Res
 /// inlined, as above.
 #[inline(never)]
 pub(crate) fn push_quoted(
-    out: &mut Vec<u8>,
+    out: &mut TextBuffer,
     args: &[Arg],
     quotes: (&[u8], &[u8]),
 ) -> Result<(), AllocError>
-    ensures { OnOk result (out.new.items ≡ out.old.items ++ all_quoted (pair_of quotes.entry)
+    ensures { OnOk result (out.new ≡ out.old ++ all_quoted (pair_of quotes.entry)
         (map text_of_arg args.now)) }
 {
     match quotes {
@@ -305,8 +332,13 @@ pub(crate) fn push_quoted(
 /// Appends the arguments, each between quotes of one byte.
 #[inline(never)]
 #[tactic(auto, using(crate::proofs::Joins::joined_step))]
-fn push_all_between(out: &mut Vec<u8>, args: &[Arg], begin: u8, end: u8) -> Result<(), AllocError>
-    ensures { OnOk result (out.new.items ≡ out.old.items
+fn push_all_between(
+    out: &mut TextBuffer,
+    args: &[Arg],
+    begin: u8,
+    end: u8,
+) -> Result<(), AllocError>
+    ensures { OnOk result (out.new ≡ out.old
         ++ all_quoted (record { begin = begin ∷ []; end = end ∷ [] }) (map text_of_arg args.now)) }
 {
     let mut first = true;
@@ -314,33 +346,32 @@ fn push_all_between(out: &mut Vec<u8>, args: &[Arg], begin: u8, end: u8) -> Resu
         if !first {
             out.push(b',')?;
         }
-        push_between(out, text_of(arg), begin, end)?;
+        push_between(out, arg, begin, end)?;
         first = false;
     }
     Ok(())
 }
 
-/// Appends a text between quotes of one byte each.
+/// Appends an argument between quotes of one byte each.
 #[inline(always)]
-fn push_between(out: &mut Vec<u8>, text: &[u8], begin: u8, end: u8) -> Result<(), AllocError>
-    ensures { OnOk result (out.new.items ≡ out.old.items
-        ++ quoted (record { begin = begin ∷ []; end = end ∷ [] }) text.now) }
+fn push_between(out: &mut TextBuffer, arg: &Arg, begin: u8, end: u8) -> Result<(), AllocError>
+    ensures { OnOk result (out.new ≡ out.old
+        ++ quoted (record { begin = begin ∷ []; end = end ∷ [] }) (text_of_arg arg.now)) }
 {
     out.push(begin)?;
-    append(out, text)?;
-    out.push(end)?;
-    Ok(())
+    push_argument(out, arg)?;
+    out.push(end)
 }
 
 /// Appends the arguments, each between any quotes.
 #[inline(never)]
 #[tactic(auto, using(crate::proofs::Joins::joined_step))]
 fn push_each_quoted(
-    out: &mut Vec<u8>,
+    out: &mut TextBuffer,
     args: &[Arg],
     quotes: (&[u8], &[u8]),
 ) -> Result<(), AllocError>
-    ensures { OnOk result (out.new.items ≡ out.old.items ++ all_quoted (pair_of quotes.entry)
+    ensures { OnOk result (out.new ≡ out.old ++ all_quoted (pair_of quotes.entry)
         (map text_of_arg args.now)) }
 {
     let mut first = true;
@@ -357,13 +388,13 @@ fn push_each_quoted(
 /// Appends a text between quotes.
 #[inline(always)]
 pub(crate) fn push_one_quoted(
-    out: &mut Vec<u8>,
+    out: &mut TextBuffer,
     text: &[u8],
     quotes: (&[u8], &[u8]),
 ) -> Result<(), AllocError>
-    ensures { OnOk result (out.new.items ≡ out.old.items ++ quoted (pair_of quotes.entry) text.now) }
+    ensures { OnOk result (out.new ≡ out.old ++ quoted (pair_of quotes.entry) text.now) }
 {
-    append(out, quotes.0)?;
-    append(out, text)?;
-    append(out, quotes.1)
+    out.append(quotes.0)?;
+    out.append(text)?;
+    out.append(quotes.1)
 }

@@ -10,6 +10,7 @@ ghost use Rattle.m4_builtins.specs.Translit as spec;
 
 use crate::args::{Arg, text_at};
 use crate::effect_buffer::EffectBuffer;
+use m4_state::text_buffer::TextBuffer;
 use std::alloc::{AllocError, Global};
 
 /// How many bytes there are.
@@ -119,11 +120,15 @@ fn no_changes() -> Changes
 }
 
 /// Appends a text with the bytes of one text replaced by those of another.
-fn translate_onto(out: &mut Vec<u8>, text: &[u8], from: &[u8], to: &[u8]) -> Result<(), AllocError>
-    ensures { OnOk result (out.new.items ≡ out.old.items ++ spec.translated text.now from.now to.now) }
+fn translate_onto(
+    out: &mut TextBuffer,
+    text: &[u8],
+    from: &[u8],
+    to: &[u8],
+) -> Result<(), AllocError>
+    ensures { OnOk result (out.new ≡ out.old ++ spec.translated text.now from.now to.now) }
 {
     let changes = changes_of(from, to);
-    out.reserve(text.len())?;
     for byte in text {
         if let Some(new) = changes[usize::from(*byte)] {
             out.push(new)?;

@@ -5,9 +5,6 @@ ghost use Rattle.std.specs.Prelude.{◌≡◌, ◌≤◌, ◌+◌, ◌++◌, ◌
 
 use std::alloc::AllocError;
 
-/// How many bytes are copied at once: those of a register of the processor, or of two.
-const COPIED: usize = 16;
-
 /// Appends a text. One of a byte or two, as most quotes and many arguments are, takes no call that copies.
 #[inline(always)]
 pub fn append(out: &mut Vec<u8>, text: &[u8]) -> Result<(), AllocError>
@@ -23,36 +20,6 @@ pub fn append(out: &mut Vec<u8>, text: &[u8]) -> Result<(), AllocError>
         [first, second] => out.extend_from_slice(&[*first, *second]),
         _ => out.extend_from_slice(text),
     }
-}
-
-/// Appends the first `len` bytes of a text. A few of them are copied with those after them, as one piece of a fixed
-/// length, if the text is as long, and the others are cut off again: that takes no call that copies.
-#[inline(always)]
-pub fn append_front(out: &mut Vec<u8>, text: &[u8], len: usize) -> Result<(), AllocError>
-    requires { len ≤ length text.now }
-    ensures ok { OnOk result (out.new.items ≡ out.old.items ++ take len text.now) }
-    ensures err { OnErr result (out.new.items ≡ out.old.items) }
-{
-    if len <= COPIED && text.len() >= COPIED {
-        append_piece(out, text.split_at(COPIED).0, len)
-    } else if len <= 2 * COPIED && text.len() >= 2 * COPIED {
-        append_piece(out, text.split_at(2 * COPIED).0, len)
-    } else {
-        append(out, text.split_at(len).0)
-    }
-}
-
-/// Appends all of a piece, and cuts off what comes after its first `len` bytes.
-#[inline(always)]
-fn append_piece(out: &mut Vec<u8>, piece: &[u8], len: usize) -> Result<(), AllocError>
-    requires { len ≤ length piece.now }
-    ensures ok { OnOk result (out.new.items ≡ out.old.items ++ take len piece.now) }
-    ensures err { OnErr result (out.new.items ≡ out.old.items) }
-{
-    let old = out.len();
-    out.extend_from_slice(piece)?;
-    out.truncate(old + len);
-    Ok(())
 }
 
 /// Appends bytes for which there is room.

@@ -1,10 +1,11 @@
-//! A text that grows by few bytes at a time. Behind its end there is room that has values, so that few bytes are copied
-//! with those after them, as one piece of a fixed length: that takes no call that copies.
+//! A text that grows by few bytes at a time: an argument that is collected, or the result of a call. Behind its end
+//! there is room that has values, so that few bytes are copied with those after them, as one piece of a fixed length:
+//! that takes no call that copies.
 
 ghost use Rattle.std.specs.Prelude.{◌≡◌, ◌==◌, ◌<◌, ◌≤◌, ◌+◌, ◌^◌, ◌++◌, ◌∷◌, [], true, false, length, take};
 ghost use Rattle.std.specs.Prelude.{OnOk, OnErr, IfSome};
 
-use crate::bytes::SHORT;
+use crate::bytes::{Bytes, SHORT};
 use std::alloc::{AllocError, Global};
 use std::marker::Model;
 
@@ -13,6 +14,9 @@ const PIECE: usize = 16;
 
 /// The room that is added behind the end of a text, in bytes: enough for a piece, and for a short text.
 const ADDED: usize = 64;
+
+/// Behind a long text one byte more is added for so many of its own, so that it is moved the less often the longer it is.
+const SHARE: usize = 16;
 
 /// A text that grows at its end. Its memory is kept when it is cleared. Contracts see its bytes.
 #[derive(Drop)]
@@ -78,6 +82,12 @@ impl TextBuffer {
         *self.room.allocator()
     }
 
+    /// Returns whether it has memory.
+    #[inline(always)]
+    pub fn has_memory(&self) -> bool {
+        self.room.capacity() > 0
+    }
+
     /// Returns the length in bytes.
     #[inline(always)]
     pub fn len(&self) -> usize
@@ -133,10 +143,10 @@ impl TextBuffer {
             self.len += 1;
             return Ok(());
         }
-        self.append(&[byte])
+        self.append_beyond(&[byte])
     }
 
-    /// Appends the first `len` bytes of a text.
+    /// Appends the first `len` bytes of a text. A few are copied with those after them.
     #[inline(always)]
     pub fn append_front(&mut self, text: &[u8], len: usize) -> Result<(), AllocError>
         requires { len ≤ length text.now }
@@ -147,25 +157,55 @@ impl TextBuffer {
             self.len += len;
             return Ok(());
         }
-        self.append(text.split_at(len).0)
+        self.append_any(text, len)
     }
 
-    /// Appends a text.
+    /// Appends the first `len` bytes of a text. Not inlined, so that the way of a few bytes is short. Afterwards there
+    /// is room for a piece.
     #[inline(never)]
-    pub fn append(&mut self, text: &[u8]) -> Result<(), AllocError>
-        ensures ok { OnOk result (self.new ≡ self.old ++ text.now) }
+    fn append_any(&mut self, text: &[u8], len: usize) -> Result<(), AllocError>
+        requires { len ≤ length text.now }
+        ensures ok { OnOk result (self.new ≡ self.old ++ take len text.now) }
         ensures err { OnErr result (self.new ≡ self.old) }
-        ensures sized { OnOk result (length self.new < 2 ^ 64) }
     {
-        if text.len() > self.room.len() - self.len {
-            return self.append_beyond(text);
+        let front = text.split_at(len).0;
+        if self.room.len() - self.len < len.saturating_add(PIECE) {
+            return self.append_beyond(front);
         }
-        write(&mut self.room, self.len, text);
-        self.len += text.len();
+        write(&mut self.room, self.len, front);
+        self.len += len;
         Ok(())
     }
 
-    /// Appends a text for which there is no room, and adds room behind it.
+    /// Appends a byte string. A short one is copied with what is behind its end.
+    #[inline(always)]
+    pub fn append_bytes(&mut self, text: &Bytes) -> Result<(), AllocError>
+        ensures ok { OnOk result (self.new ≡ self.old ++ text.now) }
+        ensures err { OnErr result (self.new ≡ self.old) }
+    {
+        let (bytes, len) = text.with_rest();
+        if len == 0 {
+            return Ok(());
+        }
+        self.append_front(bytes, len)
+    }
+
+    /// Appends a text. One of a byte, as most quotes are, takes no call.
+    #[inline(always)]
+    pub fn append(&mut self, text: &[u8]) -> Result<(), AllocError>
+        ensures ok { OnOk result (self.new ≡ self.old ++ text.now) }
+        ensures err { OnErr result (self.new ≡ self.old) }
+    {
+        match text {
+            [] => Ok(()),
+            [byte] => self.push(*byte),
+            _ => self.append_any(text, text.len()),
+        }
+    }
+
+    /// Appends a text for which there is no room, and adds room behind it. Not inlined, so that the way with room is
+    /// short.
+    #[inline(never)]
     fn append_beyond(&mut self, text: &[u8]) -> Result<(), AllocError>
         ensures ok { OnOk result (self.new ≡ self.old ++ text.now) }
         ensures err { OnErr result (self.new ≡ self.old) }
@@ -174,7 +214,8 @@ impl TextBuffer {
         self.room.truncate(self.len);
         self.room.extend_from_slice(text)?;
         let end = self.room.len();
-        self.room.resize(end.saturating_add(ADDED), 0)?;
+        let added = ADDED + end / SHARE;
+        self.room.resize(end.saturating_add(added), 0)?;
         self.len = end;
         Ok(())
     }
@@ -189,5 +230,15 @@ impl TextBuffer {
         bytes.truncate(self.len);
         self.len = 0;
         bytes
+    }
+}
+
+impl From<Vec<u8>> for TextBuffer {
+    ghost from_gives = { λ bytes text. text ≡ bytes.items };
+
+    /// Makes a text of a vector, without a copy.
+    fn from(bytes: Vec<u8>) -> TextBuffer {
+        let len = bytes.len();
+        TextBuffer { room: bytes, len }
     }
 }

@@ -1,9 +1,9 @@
-//! Bytes that are appended to a vector, all of a text or its first ones; texts, however they are held; bytes put
-//! into a text before a place.
+//! Bytes that are appended to a vector and to a buffer, all of a text or its first ones; texts, however they are held;
+//! bytes put into a text before a place.
 
 use crate::report::joined;
 use crate::shows::shows;
-use m4_state::append::{append, append_front};
+use m4_state::append::append;
 use m4_state::bytes::Bytes;
 use m4_state::text_buffer::TextBuffer;
 use std::alloc::{AllocError, Global};
@@ -22,14 +22,7 @@ static ROWS: [Row; 8] = rows! {
     "fifteen of fifteen", "abcdefghijklmno", 15 => "<abcdefghijklmno";
 };
 
-// Appends the first bytes of a text.
-fn with_front(alloc: Global, text: &[u8], len: usize) -> Result<Vec<u8>, AllocError> {
-    let mut out = Vec::from_slice(alloc, b"<")?;
-    append_front(&mut out, text, len.min(text.len()))?;
-    Ok(out)
-}
-
-// Appends the same bytes as a text of their own.
+// Appends the first bytes of a text, as a text of their own.
 fn with_text(alloc: Global, text: &[u8], len: usize) -> Result<Vec<u8>, AllocError> {
     let mut out = Vec::from_slice(alloc, b"<")?;
     append(&mut out, text.split_at(len.min(text.len())).0)?;
@@ -121,12 +114,12 @@ fn set_to(mut text: Bytes, other: &Bytes) -> Result<Bytes, AllocError> {
 
 // Returns a text that is held in a way.
 fn held(alloc: Global, text: &[u8], way: Way) -> Result<Bytes, AllocError> {
-    let mut buffer = Vec::from_slice(alloc, text)?;
+    let buffer = Vec::from_slice(alloc, text)?;
     match way {
         Way::Copied => Bytes::from_slice(alloc, text),
         Way::Moved => Ok(Bytes::from(buffer)),
         Way::MovedToShare => Bytes::from_vec(buffer),
-        Way::Taken => Ok(Bytes::take_from(&mut buffer)),
+        Way::Taken => Ok(Bytes::take_from(&mut TextBuffer::from(buffer))),
         Way::Shared => Bytes::from_vec(buffer)?.share(),
         Way::SharedSlice => shared_or_copied(Bytes::from_vec(buffer)?),
         Way::SharedFromItsOwn => shared_or_copied(Bytes::from(buffer)),
@@ -149,6 +142,16 @@ fn held(alloc: Global, text: &[u8], way: Way) -> Result<Bytes, AllocError> {
 // Returns the bytes of a text that is held in a way.
 fn bytes_held(alloc: Global, text: &[u8], way: Way) -> Result<Vec<u8>, AllocError> {
     Vec::from_slice(alloc, held(alloc, text, way)?.as_slice())
+}
+
+// Appends a text that is held in a way to a buffer that has no memory, and then to one that has.
+fn buffered(alloc: Global, text: &[u8], way: Way) -> Result<Vec<u8>, AllocError> {
+    let text = held(alloc, text, way)?;
+    let mut out = TextBuffer::new(alloc);
+    out.append_bytes(&text)?;
+    out.clear();
+    out.append_bytes(&text)?;
+    Ok(out.take())
 }
 
 // A row's name, a text, how it is held, a place, the bytes that are put before it, and whether they were, with the text
@@ -198,7 +201,6 @@ fn bytes_are_put_before_a_place(rt: HostRuntime) {
 fn first_bytes_are_appended(rt: HostRuntime) {
     for &(name, text, len, want) in &ROWS {
         let (text, want) = (text.as_bytes(), want.as_bytes());
-        shows(&rt, name, want, with_front(rt.alloc(), text, len));
         shows(&rt, name, want, with_text(rt.alloc(), text, len));
         shows(&rt, name, want, with_buffer(rt.alloc(), text, len));
     }
@@ -208,12 +210,9 @@ fn first_bytes_are_appended(rt: HostRuntime) {
 fn texts_are_the_same_however_they_are_held(rt: HostRuntime) {
     for &text in &TEXTS {
         for &way in &WAYS {
-            shows(
-                &rt,
-                text,
-                text.as_bytes(),
-                bytes_held(rt.alloc(), text.as_bytes(), way),
-            );
+            let bytes = text.as_bytes();
+            shows(&rt, text, bytes, bytes_held(rt.alloc(), bytes, way));
+            shows(&rt, text, bytes, buffered(rt.alloc(), bytes, way));
         }
     }
 }

@@ -22,7 +22,7 @@ returns c =
     (c.sort_unstable_by.ensures.sorted (λ x y. is_lt (byte_order x y)) (ranks_by nat_list_cmp_total (λ x. x))
     (answers_always _ _ _ (λ f a r g h. search rules))) in
     let warned : c.push_warnings.new.effect ≡ with_messages c.args.effect.now (warnings_on names p s) = search rules in
-    let lines : c.push_lines.new.messages.items ≡ lines_of c.sort_unstable_by.new.self.items s = search rules in
+    let lines : c.take.result.items ≡ lines_of c.sort_unstable_by.new.self.items s = search rules in
     c.in_ok-add_messages.ensures
     ∙ (λ i. with_messages ((warned ∙ ap (λ (e : Effect). with_messages e (warnings_on names p s)) c.requires) i) (lines i))
     ∙ ap (λ (ns : List (List ℕ)). only_warning (warnings_on names p s ++ lines_of ns s)) ordered

@@ -17,22 +17,21 @@ loop-arg-preserved c =
     let i : ℕ = c.loop-arg.arg-index in
     let arg : Arg = c.arg-item.result in
     let rest : List (List ℕ) = map text_of_arg (drop (i + 1) args) in
-    let out : List ℕ = c.loop-arg.out.items in
-    let mid : List ℕ = c.if-not-first.out.items in
-    let all : List ℕ = c.args.out.now.items ++ all_quoted q (map text_of_arg args) in
+    let out : List ℕ = c.loop-arg.out in
+    let mid : List ℕ = c.if-not-first.out in
+    let all : List ℕ = c.args.out.now ++ all_quoted q (map text_of_arg args) in
     let line : drop i args ≡ arg ∷ drop (i + 1) args = drop_more args i arg (omega arith) ∙ ap (λ (a : Arg). a ∷ drop (i + 1) args) (sym c.arg-item.is) in
     let before : out ++ joined_rest c.loop-arg.first (comma ∷ []) (quoted q (text_of_arg arg) ∷ map (quoted q) rest) ≡ all =
     subst (λ (z : List Arg). out ++ joined_rest c.loop-arg.first (comma ∷ []) (map (quoted q) (map text_of_arg z)) ≡ all) line c.loop-arg.invariant in
-    let written : c.push_between.new.out.items ≡ mid ++ quoted q (text_of_arg arg) = c.in_ok-push_between.ensures
-    ∙ ap (λ (t : List ℕ). mid ++ quoted q t) c.text_of.ensures in
+    let written : c.push_between.new.out ≡ mid ++ quoted q (text_of_arg arg) = c.in_ok-push_between.ensures in
     elim c.if-not-first.branch [
       | then-not-first+in_ok-push w ↦
-          let comma_after : mid ≡ out ++ (comma ∷ []) = cc (w.out-is, w.in_ok-push.ensures.items) in
-          quoted_later q (comma ∷ []) out mid c.push_between.new.out.items (text_of_arg arg) all rest c.loop-arg.first
+          let comma_after : mid ≡ out ++ (comma ∷ []) = cc (w.out-is, w.in_ok-push.ensures.ok) in
+          quoted_later q (comma ∷ []) out mid c.push_between.new.out (text_of_arg arg) all rest c.loop-arg.first
           w.if-not-first.true comma_after written before
       | else-not-first w ↦
           let same : mid ≡ out = cc (w.out-is) in
-          quoted_first q (comma ∷ []) out mid c.push_between.new.out.items (text_of_arg arg) all rest c.loop-arg.first w.if-not-first.false same written before
+          quoted_first q (comma ∷ []) out mid c.push_between.new.out (text_of_arg arg) all rest c.loop-arg.first w.if-not-first.false same written before
     ]
 
 pub returns : goal.returns

@@ -7,6 +7,6 @@ use Rattle.m4_builtins.proofs.Joins.{joined_rest}
 use Rattle.m4_builtins.proofs.substitute.push_each_quoted.Given as goal
 
 abbrev pub invariant-loop-arg : goal.invariant-loop-arg
-invariant-loop-arg l = l.out.items ++ joined_rest l.first (comma ∷ [])
+invariant-loop-arg l = l.out ++ joined_rest l.first (comma ∷ [])
     (map (quoted (pair_of l.quotes)) (map text_of_arg (drop l.arg-index l.args)))
-    ≡ l.fn.out.items ++ all_quoted (pair_of l.quotes) (map text_of_arg l.args)
+    ≡ l.fn.out ++ all_quoted (pair_of l.quotes) (map text_of_arg l.args)

@@ -4,5 +4,5 @@ use Rattle.m4_builtins.proofs.Joins.{joined_rest}
 use Rattle.m4_builtins.proofs.substitute.push_joined.Given as goal
 
 abbrev pub invariant-loop-arg : goal.invariant-loop-arg
-invariant-loop-arg l = l.out.items ++ joined_rest l.first (l.separator ∷ []) (texts_of (drop l.arg-index l.args))
-    ≡ l.fn.out.items ++ joined_by (l.separator ∷ []) (texts_of l.args)
+invariant-loop-arg l = l.out ++ joined_rest l.first (l.separator ∷ []) (texts_of (drop l.arg-index l.args))
+    ≡ l.fn.out ++ joined_by (l.separator ∷ []) (texts_of l.args)

@@ -8,7 +8,7 @@ use Rattle.m4_builtins.proofs.substitute.substitute_onto.Given as goal
 -- what is written and what the rest gives is all
 abbrev pub invariant-loop-rest : goal.invariant-loop-rest
 invariant-loop-rest l = record {
-  all : l.out.items ++ subst l.rest l.name l.list (pair_of l.quotes) ≡ l.fn.out.items ++ subst l.text l.name l.list (pair_of l.quotes);
+  all : l.out ++ subst l.rest l.name l.list (pair_of l.quotes) ≡ l.fn.out ++ subst l.text l.name l.list (pair_of l.quotes);
   count : l.before ≡ run_length (λ b. not (b == dollar)) l.rest;
   within : l.before ≤ length l.rest;
 }
