@@ -11,7 +11,7 @@ ghost use Rattle.m4_input.specs.Text.{text_in, text_after, with_text, TakesBlock
 ghost use Rattle.m4_input.specs.Pending.{newlines_in};
 
 use crate::fault::InputFault;
-use m4_state::append::{append_in_room, put_before};
+use m4_state::append::{append_in_room, copy_before};
 use m4_state::device::{ByteSource, DeviceFault};
 use std::alloc::{AllocError, Global};
 use std::marker::Model;
@@ -152,14 +152,14 @@ impl File {
 
     /// Inserts a text at the start, over bytes that were read, if there are as many of these. Returns whether it did.
     #[inline(always)]
-    pub fn put_before(&mut self, text: &[u8]) -> bool
+    pub fn put_in_block(&mut self, text: &[u8]) -> bool
         ensures put { result ≡ true → self.new ≡ with_text text.now self.old }
         ensures left { result ≡ false → self.new ≡ self.old }
     {
         if text.len() > self.at {
             return false;
         }
-        put_before(&mut self.bytes, self.at, text);
+        copy_before(&mut self.bytes, self.at, text);
         self.at -= text.len();
         self.pushed += text.len();
         true

@@ -256,13 +256,13 @@ impl Input {
     /// whether it did.
     #[doc(hidden)]
     #[inline(always)]
-    pub fn put_before(&mut self, text: &[u8]) -> bool
+    pub fn push_in_place(&mut self, text: &[u8]) -> bool
         requires { self.old.pending.definition ≡ None }
         ensures put { result ≡ true
             → self.new ≡ record self.old { pending = with_pushed (pushes.Text text.now) self.old.pending } }
         ensures left { result ≡ false → self.new ≡ self.old }
     {
-        self.text.put_before(text)
+        self.text.put_in_front(text)
     }
 
     /// Returns the first token and consumes it. Returns `EndInString` or `EndInComment` if the input ends

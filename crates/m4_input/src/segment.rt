@@ -74,11 +74,11 @@ impl Segment {
     /// Inserts a text at the start, over bytes that were read, if there are as many of these and no other text shares
     /// them. Returns whether it did.
     #[inline(always)]
-    pub fn put_before(&mut self, text: &[u8]) -> bool
+    pub fn extend_back(&mut self, text: &[u8]) -> bool
         ensures put { result ≡ true → self.new ≡ text.now ++ self.old }
         ensures left { result ≡ false → self.new ≡ self.old }
     {
-        if self.text.put_before(self.at, text) {
+        if self.text.overwrite_before(self.at, text) {
             self.at -= text.len();
             return true;
         }

@@ -181,7 +181,7 @@ impl Text {
         ensures ok { OnOk result (self.new ≡ with_text text self.old) }
         ensures err { OnErr result (self.new ≡ self.old) }
     {
-        if self.put_before(text.as_slice()) {
+        if self.put_in_front(text.as_slice()) {
             keep(&mut self.buffer, text.buffer());
             return Ok(());
         }
@@ -194,16 +194,16 @@ impl Text {
     /// Inserts a short text before the bytes that come next, over bytes that were read, if it can. Returns whether it
     /// did.
     #[inline(always)]
-    pub fn put_before(&mut self, text: &[u8]) -> bool
+    pub fn put_in_front(&mut self, text: &[u8]) -> bool
         ensures put { result ≡ true → self.new ≡ with_text text.now self.old }
         ensures left { result ≡ false → self.new ≡ self.old }
     {
         if text.len() > MOST_PUT_BEFORE {
             false
         } else if self.top.len() == 0 {
-            self.file.put_before(text)
+            self.file.put_in_block(text)
         } else {
-            self.top.put_before(text)
+            self.top.extend_back(text)
         }
     }
 
@@ -248,14 +248,14 @@ impl Text {
             return false;
         }
         let Some(next) = self.below.last_mut() else {
-            if !self.file.put_before(rest) {
+            if !self.file.put_in_block(rest) {
                 return false;
             }
             self.top = Segment::of(Bytes::empty());
             return true;
         };
         let len = next.len();
-        if !next.put_before(rest) {
+        if !next.extend_back(rest) {
             return false;
         }
         self.held -= len;

@@ -37,7 +37,7 @@ pub fn append_in_room(out: &mut Vec<u8>, bytes: &[u8])
 
 /// Puts bytes directly before the place `at`, over those that are there.
 #[inline(always)]
-pub fn put_before(all: &mut [u8], at: usize, bytes: &[u8])
+pub fn copy_before(all: &mut [u8], at: usize, bytes: &[u8])
     requires at { at ≤ length all.old }
     requires room { length bytes.now ≤ at }
     ensures put { drop (at - length bytes.now) all.new ≡ bytes.now ++ drop at all.old }

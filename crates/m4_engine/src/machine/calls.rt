@@ -55,7 +55,7 @@ pub(super) fn push_text(input: &mut Input, text: &Bytes) -> Result<(), TurnFault
     ensures pushes { OnOk result (Pushes input.old.pending input.new.pending (Some (pushes.Text text.now))) }
     ensures stays { OnOk result (Stays input.old input.new) }
 {
-    if input.put_before(text.as_slice()) {
+    if input.push_in_place(text.as_slice()) {
         return Ok(());
     }
     push(input, Pushed::Text(text.share()?))
@@ -70,7 +70,7 @@ fn push_value(input: &mut Input, effect: &mut EffectBuffer) -> Result<(), TurnFa
     ensures stays { OnOk result (Stays input.old input.new) }
 {
     if let Some(text) = effect.made_text() {
-        if text.is_empty() || input.put_before(text) {
+        if text.is_empty() || input.push_in_place(text) {
             return Ok(());
         }
     }

@@ -32,13 +32,13 @@ const LETTERS: &str = "abcdefghijklmnopqrstuvwxyzabcdefghijklmnopqrstuvwxyz\
 static PUTS: [Row; 3] = input_rows! {
     PLAIN:
     "a text before those of a file, and one that is too long",
-        "ab c", [More, PutBefore("x"), PutBefore(LETTERS), Line, Next, Hand] =>
+        "ab c", [More, PushInPlace("x"), PushInPlace(LETTERS), Line, Next, Hand] =>
         "more\nput\nleft\nline 1\nname xab\n[ c]\n";
     "a text before the rest of another that others may share",
-        "d", [More, Push(LETTERS), PutBefore("1"), Take(2), PutBefore("12"), Take(4), NextLen] =>
+        "d", [More, Push(LETTERS), PushInPlace("1"), Take(2), PushInPlace("12"), Take(4), NextLen] =>
         "more\nleft\nleft\na name of 125\n";
     "newlines that are put before others count as no lines",
-        "a\nb", [More, Take(2), PutBefore("\n\n"), Line, Take(2), Line, TakeAll] =>
+        "a\nb", [More, Take(2), PushInPlace("\n\n"), Line, Take(2), Line, TakeAll] =>
         "more\nput\nline 2\nline 2\n[b]\n";
 };
 

@@ -55,7 +55,7 @@ pub enum Step {
     PushMany(usize),
     PushDefinition(Given),
     /// Copies a text to before the bytes in hand, if there is room, and reports whether there was.
-    PutBefore(&'static str),
+    PushInPlace(&'static str),
     /// Removes all bytes in hand, and reports them.
     TakeAll,
     /// The bytes in hand that are contiguous, the line, the file's name, and how many bytes the reader returned.
@@ -290,9 +290,9 @@ fn push(alloc: Global, input: &mut Input, step: Step, report: &mut Report) {
 }
 
 // Copies a text to before the bytes in hand.
-fn put_before(input: &mut Input, text: &[u8], report: &mut Report) {
+fn push_in_place(input: &mut Input, text: &[u8], report: &mut Report) {
     take_none(input, report);
-    report.add(if input.put_before(text) {
+    report.add(if input.push_in_place(text) {
         b"put\n"
     } else {
         b"left\n"
@@ -314,7 +314,7 @@ fn answer_in_hand(alloc: Global, input: &mut Input, step: Step, report: &mut Rep
             }
         }
         Step::TakeAll => describe_bytes(take(alloc, input, usize::MAX), report),
-        Step::PutBefore(text) => put_before(input, text.as_bytes(), report),
+        Step::PushInPlace(text) => push_in_place(input, text.as_bytes(), report),
         Step::Front(looked) => describe_front(alloc, input, looked, report),
         Step::Hand => describe_bytes(in_hand(alloc, input), report),
         Step::Line => describe_count(b"line ", input.line() as usize, report),

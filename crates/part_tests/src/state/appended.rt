@@ -183,7 +183,7 @@ static PUTS: [PutRow; 8] = rows! {
 fn put(alloc: Global, row: &PutRow) -> Result<Vec<u8>, AllocError> {
     let mut text = held(alloc, row.1.as_bytes(), row.2)?;
     let at = row.3.min(text.as_slice().len());
-    if text.put_before(at, row.4.as_bytes()) {
+    if text.overwrite_before(at, row.4.as_bytes()) {
         joined(alloc, &[b"put ", text.as_slice()])
     } else {
         joined(alloc, &[b"left ", text.as_slice()])

@@ -25,14 +25,14 @@ invariant_of-self-in-Some-pop c =
     let top : List ℕ = c.self.inside.top in
     let front : List (List ℕ) = c.pop.new.self.items in
     let l : suc i ≡ length below = search (arith, c.in-Some.ensures.item) in
-    let put : c.put_before-2.new.self ≡ top ++ s = c.if-not-put_before-2.ensures.put refl ∙ ap (λ (x : List ℕ). x ++ s) c.rest-rest.ensures in
+    let put : c.extend_back.new.self ≡ top ++ s = c.if-not-extend_back.ensures.put refl ∙ ap (λ (x : List ℕ). x ++ s) c.rest-rest.ensures in
     let whole : length (joined below) ≡ length s + length (joined front) =
-    ap length (last_below below front i s c.put_before-2.new.self s l c.in-Some.ensures.value c.in-Some-pop.ensures.rest) ∙ length-append s (joined front) in
-    let same : c.in-Some-pop.next ++ joined front ≡ c.put_before-2.new.self ++ joined front =
-    last_put below front i c.put_before-2.new.self c.in-Some-pop.next l c.in-Some-pop.ensures.items
+    ap length (last_below below front i s c.extend_back.new.self s l c.in-Some.ensures.value c.in-Some-pop.ensures.rest) ∙ length-append s (joined front) in
+    let same : c.in-Some-pop.next ++ joined front ≡ c.extend_back.new.self ++ joined front =
+    last_put below front i c.extend_back.new.self c.in-Some-pop.next l c.in-Some-pop.ensures.items
     c.in-Some-pop.ensures.rest in
     let long : length c.in-Some-pop.next + length (joined front) ≡ (length top + length s) + length (joined front) =
-    sym (length-append c.in-Some-pop.next (joined front)) ∙ ap length same ∙ length-append c.put_before-2.new.self (joined front)
+    sym (length-append c.in-Some-pop.next (joined front)) ∙ ap length same ∙ length-append c.extend_back.new.self (joined front)
     ∙ ap (λ (x : List ℕ). length x + length (joined front)) put ∙ ap (λ n. n + length (joined front)) (length-append top s) in (
       (omega (arith, whole, c.len-len.ensures.len, c.self.invariant), omega (arith, whole, c.len-len.ensures.len, c.self.invariant)),
       λ e.
@@ -50,9 +50,9 @@ returns-in-Some-pop c =
     let top : List ℕ = c.self.inside.top in
     let front : List (List ℕ) = c.pop.new.self.items in
     let l : suc i ≡ length below = search (arith, c.in-Some.ensures.item) in
-    let put : c.put_before-2.new.self ≡ top ++ s = c.if-not-put_before-2.ensures.put refl ∙ ap (λ (x : List ℕ). x ++ s) c.rest-rest.ensures in
+    let put : c.extend_back.new.self ≡ top ++ s = c.if-not-extend_back.ensures.put refl ∙ ap (λ (x : List ℕ). x ++ s) c.rest-rest.ensures in
     let same : c.in-Some-pop.next ++ joined front ≡ top ++ joined below =
-    last_put below front i c.put_before-2.new.self c.in-Some-pop.next l c.in-Some-pop.ensures.items c.in-Some-pop.ensures.rest
+    last_put below front i c.extend_back.new.self c.in-Some-pop.next l c.in-Some-pop.ensures.items c.in-Some-pop.ensures.rest
     ∙ ap (λ (x : List ℕ). x ++ joined front) put ∙ append_assoc top s (joined front)
-    ∙ ap (λ (x : List ℕ). top ++ x) (sym (last_below below front i s c.put_before-2.new.self s l c.in-Some.ensures.value c.in-Some-pop.ensures.rest)) in
+    ∙ ap (λ (x : List ℕ). top ++ x) (sym (last_below below front i s c.extend_back.new.self s l c.in-Some.ensures.value c.in-Some-pop.ensures.rest)) in
     ap (λ (x : List ℕ). with_text x c.self.inside.file) same ∙ c.self.view_is
