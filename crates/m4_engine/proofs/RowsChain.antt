@@ -37,11 +37,17 @@ second_frozen : (run freezing None (Opened (codes "a.m4") (codes "define(`n',`1'
     ∷ Opened (codes "b.m4") (codes "n pushdef(`n',`2')divert(1)n\n") ∷ [])).frozen
     ≡ Some
     (codes
-    "# m4 frozen state\nV1\nF8,8\n__file____file__\nT7,0\n__gnu__\nF8,8\n__line____line__\nT8,0\n__unix__\nF7,7\nbuiltinbuiltin\nF9,9\nchangecomchangecom\nF11,11\nchangequotechangequote\nF4,4\ndecrdecr\nF6,6\ndefinedefine\nF4,4\n"
+    "# m4 frozen state\nV1\nF8,8\n__file____file__\nT7,0\n__gnu__\nF8,8\n__line____line__\nT8,0\n__unix__\nF7,7\n"
     ++ codes
-    "defndefn\nF6,6\ndivertdivert\nF6,6\ndivnumdivnum\nF3,3\ndnldnl\nF7,7\ndumpdefdumpdef\nF8,8\nerrprinterrprint\nF4,4\nevaleval\nF5,5\nifdefifdef\nF6,6\nifelseifelse\nF4,4\nincrincr\nF5,5\nindexindex\nF5,5\nindirindir\nF3,3\nlenlen\n"
+    "builtinbuiltin\nF9,9\nchangecomchangecom\nF11,11\nchangequotechangequote\nF4,4\ndecrdecr\nF6,6\ndefinedefine\nF4,4\n"
     ++ codes
-    "F6,6\nm4exitm4exit\nF6,6\nm4wrapm4wrap\nT1,1\nn1\nT1,1\nn2\nF6,6\npopdefpopdef\nF7,7\npushdefpushdef\nF5,5\nshiftshift\nF6,6\nsubstrsubstr\nF8,8\ntranslittranslit\nF8,8\nundefineundefine\nF8,8\nundivertundivert\nD1,2\n2\n\n"
+    "defndefn\nF6,6\ndivertdivert\nF6,6\ndivnumdivnum\nF3,3\ndnldnl\nF7,7\ndumpdefdumpdef\nF8,8\nerrprinterrprint\nF4,4\n"
+    ++ codes
+    "evaleval\nF5,5\nifdefifdef\nF6,6\nifelseifelse\nF4,4\nincrincr\nF5,5\nindexindex\nF5,5\nindirindir\nF3,3\nlenlen\n"
+    ++ codes
+    "F6,6\nm4exitm4exit\nF6,6\nm4wrapm4wrap\nT1,1\nn1\nT1,1\nn2\nF6,6\npopdefpopdef\nF7,7\npushdefpushdef\nF5,5\n"
+    ++ codes
+    "shiftshift\nF6,6\nsubstrsubstr\nF8,8\ntranslittranslit\nF8,8\nundefineundefine\nF8,8\nundivertundivert\nD1,2\n2\n\n"
     ++ codes "# End of frozen state file\n")
 unfolding digits
 second_frozen = refl

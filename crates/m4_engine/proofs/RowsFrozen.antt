@@ -63,11 +63,17 @@ decided = refl
 delimiters_text : List ℕ
 delimiters_text =
     codes
-    "# m4 frozen state\nV1\nQ1,1\n[]\nC0,0\n\nF8,8\n__file____file__\nT7,0\n__gnu__\nF8,8\n__line____line__\nT8,0\n__unix__\nF7,7\nbuiltinbuiltin\nF9,9\nchangecomchangecom\nF11,11\nchangequotechangequote\nF4,4\ndecrdecr\nF6,6\n"
+    "# m4 frozen state\nV1\nQ1,1\n[]\nC0,0\n\nF8,8\n__file____file__\nT7,0\n__gnu__\nF8,8\n__line____line__\nT8,0\n"
     ++ codes
-    "definedefine\nF4,4\ndefndefn\nF6,6\ndivertdivert\nF6,6\ndivnumdivnum\nF3,3\ndnldnl\nF7,7\ndumpdefdumpdef\nF8,8\nerrprinterrprint\nF4,4\nevaleval\nF5,5\nifdefifdef\nF6,6\nifelseifelse\nF4,4\nincrincr\nF5,5\nindexindex\nF5,5\n"
+    "__unix__\nF7,7\nbuiltinbuiltin\nF9,9\nchangecomchangecom\nF11,11\nchangequotechangequote\nF4,4\ndecrdecr\nF6,6\n"
     ++ codes
-    "indirindir\nF3,3\nlenlen\nF6,6\nm4exitm4exit\nF6,6\nm4wrapm4wrap\nF6,6\npopdefpopdef\nF7,7\npushdefpushdef\nF5,5\nshiftshift\nF6,6\nsubstrsubstr\nF8,8\ntranslittranslit\nF8,8\nundefineundefine\nF8,8\nundivertundivert\n"
+    "definedefine\nF4,4\ndefndefn\nF6,6\ndivertdivert\nF6,6\ndivnumdivnum\nF3,3\ndnldnl\nF7,7\ndumpdefdumpdef\nF8,8\n"
+    ++ codes
+    "errprinterrprint\nF4,4\nevaleval\nF5,5\nifdefifdef\nF6,6\nifelseifelse\nF4,4\nincrincr\nF5,5\nindexindex\nF5,5\n"
+    ++ codes
+    "indirindir\nF3,3\nlenlen\nF6,6\nm4exitm4exit\nF6,6\nm4wrapm4wrap\nF6,6\npopdefpopdef\nF7,7\npushdefpushdef\n"
+    ++ codes
+    "F5,5\nshiftshift\nF6,6\nsubstrsubstr\nF8,8\ntranslittranslit\nF8,8\nundefineundefine\nF8,8\nundivertundivert\n"
     ++ codes "# End of frozen state file\n"
 
 delimiters_frozen : (over_a freezing (codes "changequote([,])changecom(,)dnl\n")).frozen ≡ Some delimiters_text
@@ -147,11 +153,17 @@ discarded = refl
 greeting_text : List ℕ
 greeting_text =
     codes
-    "# m4 frozen state\nV1\nF8,8\n__file____file__\nT7,0\n__gnu__\nF8,8\n__line____line__\nT8,0\n__unix__\nF7,7\nbuiltinbuiltin\nF9,9\nchangecomchangecom\nF11,11\nchangequotechangequote\nF4,4\ndecrdecr\nF6,6\ndefinedefine\nF4,4\n"
+    "# m4 frozen state\nV1\nF8,8\n__file____file__\nT7,0\n__gnu__\nF8,8\n__line____line__\nT8,0\n__unix__\nF7,7\n"
     ++ codes
-    "defndefn\nF6,6\ndivertdivert\nF6,6\ndivnumdivnum\nF3,3\ndnldnl\nF7,7\ndumpdefdumpdef\nF8,8\nerrprinterrprint\nF4,4\nevaleval\nT2,9\nhiHello $1.\nF5,5\nifdefifdef\nF6,6\nifelseifelse\nF4,4\nincrincr\nF5,5\nindexindex\nF5,5\n"
+    "builtinbuiltin\nF9,9\nchangecomchangecom\nF11,11\nchangequotechangequote\nF4,4\ndecrdecr\nF6,6\ndefinedefine\nF4,4\n"
     ++ codes
-    "indirindir\nF3,3\nlenlen\nF6,6\nm4exitm4exit\nF6,6\nm4wrapm4wrap\nF6,6\npopdefpopdef\nF7,7\npushdefpushdef\nF5,5\nshiftshift\nF6,6\nsubstrsubstr\nF8,8\ntranslittranslit\nF8,8\nundefineundefine\nF8,8\nundivertundivert\n"
+    "defndefn\nF6,6\ndivertdivert\nF6,6\ndivnumdivnum\nF3,3\ndnldnl\nF7,7\ndumpdefdumpdef\nF8,8\nerrprinterrprint\n"
+    ++ codes
+    "F4,4\nevaleval\nT2,9\nhiHello $1.\nF5,5\nifdefifdef\nF6,6\nifelseifelse\nF4,4\nincrincr\nF5,5\nindexindex\nF5,5\n"
+    ++ codes
+    "indirindir\nF3,3\nlenlen\nF6,6\nm4exitm4exit\nF6,6\nm4wrapm4wrap\nF6,6\npopdefpopdef\nF7,7\npushdefpushdef\n"
+    ++ codes
+    "F5,5\nshiftshift\nF6,6\nsubstrsubstr\nF8,8\ntranslittranslit\nF8,8\nundefineundefine\nF8,8\nundivertundivert\n"
     ++ codes "# End of frozen state file\n"
 
 greeting_frozen : over_a freezing (codes "define(`hi',`Hello $1.')dnl\n") ≡ record (done [] [] 2) { frozen = Some greeting_text }

@@ -188,7 +188,9 @@ module _ (n c : ℤ) (ds : List NumberedText) (sorted : IsTrue (is_sorted int_cm
       added_text = ap (λ (x : List ℕ). x ++ text) other_text ∙ ap (λ (x : List ℕ). diverted_text ds c ++ x) is
 
       pub added_sorted : IsTrue (is_sorted int_cmp fs)
-      added_sorted = subst (λ (x : List NumberedText). IsTrue (is_sorted int_cmp x)) (sym added) (sorted_put int_cmp int_cmp_total c (diverted_text es c ++ text) es out_sorted)
+      added_sorted =
+          subst (λ (x : List NumberedText). IsTrue (is_sorted int_cmp x)) (sym added)
+          (sorted_put int_cmp int_cmp_total c (diverted_text es c ++ text) es out_sorted)
 
       pub is_joined : (gs : List NumberedText) → gs ≡ without_text fs n → gs ≡ put int_cmp c (diverted_text ds c ++ diverted_text ds n) (without_text ds n)
       is_joined gs left =

@@ -19,26 +19,32 @@ pub pass_plain-requires : goal.pass_plain-requires
 pass_plain-requires g c = c.turns.invariant.runs.ready
 
 pub turn-requires : goal.turn-requires
-turn-requires g c = let w = to_some c.in-Ok.lookahead c.in-Some.lookahead c.pass_plain.new.next c.turns.self c.pass_plain.new.self c.turns.input c.pass_plain.new.input c.in-Some.is c.in-Ok.ensures.passes in record { seen = (w.0, w.2) }
+turn-requires g c =
+    let w = to_some c.in-Ok.lookahead c.in-Some.lookahead c.pass_plain.new.next c.turns.self c.pass_plain.new.self
+    c.turns.input c.pass_plain.new.input c.in-Some.is c.in-Ok.ensures.passes in
+    record { seen = (w.0, w.2) }
 
 -- a block of output is full
 pub write_block-requires : goal.write_block-requires
 write_block-requires g c =
-    let w = to_none c.in-Ok.lookahead c.pass_plain.new.next c.turns.self c.pass_plain.new.self c.turns.input c.pass_plain.new.input (search rules) c.in-Ok.ensures.passes in
+    let w = to_none c.in-Ok.lookahead c.pass_plain.new.next c.turns.self c.pass_plain.new.self c.turns.input
+    c.pass_plain.new.input (search rules) c.in-Ok.ensures.passes in
     record {
       quiet = passes_messages c.turns.self c.pass_plain.new.self c.turns.input c.pass_plain.new.input w.0 ∙ c.turns.invariant.quiet;
     }
 
 pub returns-in-Err-clause-gives : goal.returns-in-Err-clause-gives
 returns-in-Err-clause-gives g c =
-    let w = to_none c.in-Ok.lookahead c.pass_plain.new.next c.turns.self c.pass_plain.new.self c.turns.input c.pass_plain.new.input (search rules) c.in-Ok.ensures.passes in
+    let w = to_none c.in-Ok.lookahead c.pass_plain.new.next c.turns.self c.pass_plain.new.self c.turns.input
+    c.pass_plain.new.input (search rules) c.in-Ok.ensures.passes in
     let r = passed c.args.wanted c.args.self.now c.turns.self c.pass_plain.new.self c.args.input.now.pending
     c.turns.input c.pass_plain.new.input _ _ _ _ c.turns.invariant.runs w.0 in
     breaks c.args.wanted c.args.self.now c.pass_plain.new.self c.args.input.now.pending c.pass_plain.new.input _ _ _ _ _ r c.in-Err.ensures.puts
 
 pub returns-in-Err-clause-order : goal.returns-in-Err-clause-order
 returns-in-Err-clause-order g c =
-    let w = to_none c.in-Ok.lookahead c.pass_plain.new.next c.turns.self c.pass_plain.new.self c.turns.input c.pass_plain.new.input (search rules) c.in-Ok.ensures.passes in
+    let w = to_none c.in-Ok.lookahead c.pass_plain.new.next c.turns.self c.pass_plain.new.self c.turns.input
+    c.pass_plain.new.input (search rules) c.in-Ok.ensures.passes in
     let r = passed c.args.wanted c.args.self.now c.turns.self c.pass_plain.new.self c.args.input.now.pending
     c.turns.input c.pass_plain.new.input _ _ _ _ c.turns.invariant.runs w.0 in
     lack_breaks_in_order c.args.wanted c.args.self.now c.pass_plain.new.self c.args.input.now.pending c.pass_plain.new.input
@@ -48,13 +54,15 @@ returns-in-Err-clause-order g c =
 
 pub turns-smaller-in_default-lookahead : goal.turns-smaller-in_default-lookahead
 turns-smaller-in_default-lookahead g c =
-    let w = to_none c.in-Ok.lookahead c.pass_plain.new.next c.turns.self c.pass_plain.new.self c.turns.input c.pass_plain.new.input (search rules) c.in-Ok.ensures.passes in
+    let w = to_none c.in-Ok.lookahead c.pass_plain.new.next c.turns.self c.pass_plain.new.self c.turns.input
+    c.pass_plain.new.input (search rules) c.in-Ok.ensures.passes in
     filled c.turns.self c.pass_plain.new.self c.write_block.new.self c.turns.input c.pass_plain.new.input
     w.0 c.turns.invariant.few (search rules) c.in_default-write_block.ensures.engine
 
 pub turns-preserved-in_default-lookahead : goal.turns-preserved-in_default-lookahead
 turns-preserved-in_default-lookahead g c =
-    let w = to_none c.in-Ok.lookahead c.pass_plain.new.next c.turns.self c.pass_plain.new.self c.turns.input c.pass_plain.new.input (search rules) c.in-Ok.ensures.passes in
+    let w = to_none c.in-Ok.lookahead c.pass_plain.new.next c.turns.self c.pass_plain.new.self c.turns.input
+    c.pass_plain.new.input (search rules) c.in-Ok.ensures.passes in
     let r = passed c.args.wanted c.args.self.now c.turns.self c.pass_plain.new.self c.args.input.now.pending
     c.turns.input c.pass_plain.new.input _ _ _ _ c.turns.invariant.runs w.0 in
     record {
@@ -76,7 +84,8 @@ returns-in_default-clause-gives g c = lack_gives c.args.wanted c.args.self.now c
 
 pub returns-in_default-turn-clause-gives : goal.returns-in_default-turn-clause-gives
 returns-in_default-turn-clause-gives g c =
-    let w = to_some c.in-Ok.lookahead c.in-Some.lookahead c.pass_plain.new.next c.turns.self c.pass_plain.new.self c.turns.input c.pass_plain.new.input c.in-Some.is c.in-Ok.ensures.passes in
+    let w = to_some c.in-Ok.lookahead c.in-Some.lookahead c.pass_plain.new.next c.turns.self c.pass_plain.new.self
+    c.turns.input c.pass_plain.new.input c.in-Some.is c.in-Ok.ensures.passes in
     let r = passed c.args.wanted c.args.self.now c.turns.self c.pass_plain.new.self c.args.input.now.pending
     c.turns.input w.0 _ _ _ _ c.turns.invariant.runs w.1 in
     lack_gives c.args.wanted c.args.self.now c.pass_plain.new.self c.turn.new.self c.turn.new.self
@@ -108,7 +117,8 @@ turns-init g c = record {
 
 pub returns-in-Err-flush-clause-gives : goal.returns-in-Err-flush-clause-gives
 returns-in-Err-flush-clause-gives g c =
-    let w = to_some c.in-Ok.lookahead c.in-Some.lookahead c.pass_plain.new.next c.turns.self c.pass_plain.new.self c.turns.input c.pass_plain.new.input c.in-Some.is c.in-Ok.ensures.passes in
+    let w = to_some c.in-Ok.lookahead c.in-Some.lookahead c.pass_plain.new.next c.turns.self c.pass_plain.new.self
+    c.turns.input c.pass_plain.new.input c.in-Some.is c.in-Ok.ensures.passes in
     let t = c.in-Ok-turn.ensures.turns w.0 w.2 in
     let r = passed c.args.wanted c.args.self.now c.turns.self c.pass_plain.new.self c.args.input.now.pending
     c.turns.input w.0 _ _ _ _ c.turns.invariant.runs w.1 in
@@ -118,7 +128,8 @@ returns-in-Err-flush-clause-gives g c =
 
 pub turns-smaller-in-turns : goal.turns-smaller-in-turns
 turns-smaller-in-turns g c =
-    let w = to_some c.in-Ok.lookahead c.in-Some.lookahead c.pass_plain.new.next c.turns.self c.pass_plain.new.self c.turns.input c.pass_plain.new.input c.in-Some.is c.in-Ok.ensures.passes in
+    let w = to_some c.in-Ok.lookahead c.in-Some.lookahead c.pass_plain.new.next c.turns.self c.pass_plain.new.self
+    c.turns.input c.pass_plain.new.input c.in-Some.is c.in-Ok.ensures.passes in
     let t = c.in-Ok-turn.ensures.turns w.0 w.2 in
     fell c.turns.self c.pass_plain.new.self c.turn.new.self
     c.turn.new.self c.turns.input w.0 c.turn.new.input _ _ _ _ c.in-Ok-turn.turned
@@ -127,7 +138,8 @@ turns-smaller-in-turns g c =
 
 pub turns-preserved-in-turns : goal.turns-preserved-in-turns
 turns-preserved-in-turns g c =
-    let w = to_some c.in-Ok.lookahead c.in-Some.lookahead c.pass_plain.new.next c.turns.self c.pass_plain.new.self c.turns.input c.pass_plain.new.input c.in-Some.is c.in-Ok.ensures.passes in
+    let w = to_some c.in-Ok.lookahead c.in-Some.lookahead c.pass_plain.new.next c.turns.self c.pass_plain.new.self
+    c.turns.input c.pass_plain.new.input c.in-Some.is c.in-Ok.ensures.passes in
     let t = c.in-Ok-turn.ensures.turns w.0 w.2 in
     let r = passed c.args.wanted c.args.self.now c.turns.self c.pass_plain.new.self c.args.input.now.pending
     c.turns.input w.0 _ _ _ _ c.turns.invariant.runs w.1 in
@@ -144,7 +156,8 @@ turns-preserved-in-turns g c =
 
 pub turns-smaller-in-GoesOn-turned : goal.turns-smaller-in-GoesOn-turned
 turns-smaller-in-GoesOn-turned g c =
-    let w = to_some c.in-Ok.lookahead c.in-Some.lookahead c.pass_plain.new.next c.turns.self c.pass_plain.new.self c.turns.input c.pass_plain.new.input c.in-Some.is c.in-Ok.ensures.passes in
+    let w = to_some c.in-Ok.lookahead c.in-Some.lookahead c.pass_plain.new.next c.turns.self c.pass_plain.new.self
+    c.turns.input c.pass_plain.new.input c.in-Some.is c.in-Ok.ensures.passes in
     let t = c.in-Ok-turn.ensures.turns w.0 w.2 in
     fell c.turns.self c.pass_plain.new.self c.turn.new.self
     c.flush.new.self c.turns.input w.0 c.turn.new.input _ _ _ _ c.in-Ok-turn.turned
@@ -153,7 +166,8 @@ turns-smaller-in-GoesOn-turned g c =
 
 pub turns-preserved-in-GoesOn-turned : goal.turns-preserved-in-GoesOn-turned
 turns-preserved-in-GoesOn-turned g c =
-    let w = to_some c.in-Ok.lookahead c.in-Some.lookahead c.pass_plain.new.next c.turns.self c.pass_plain.new.self c.turns.input c.pass_plain.new.input c.in-Some.is c.in-Ok.ensures.passes in
+    let w = to_some c.in-Ok.lookahead c.in-Some.lookahead c.pass_plain.new.next c.turns.self c.pass_plain.new.self
+    c.turns.input c.pass_plain.new.input c.in-Some.is c.in-Ok.ensures.passes in
     let t = c.in-Ok-turn.ensures.turns w.0 w.2 in
     let r = passed c.args.wanted c.args.self.now c.turns.self c.pass_plain.new.self c.args.input.now.pending
     c.turns.input w.0 _ _ _ _ c.turns.invariant.runs w.1 in
@@ -171,7 +185,8 @@ turns-preserved-in-GoesOn-turned g c =
 
 pub flush-requires : goal.flush-requires
 flush-requires g c =
-    let w = to_some c.in-Ok.lookahead c.in-Some.lookahead c.pass_plain.new.next c.turns.self c.pass_plain.new.self c.turns.input c.pass_plain.new.input c.in-Some.is c.in-Ok.ensures.passes in
+    let w = to_some c.in-Ok.lookahead c.in-Some.lookahead c.pass_plain.new.next c.turns.self c.pass_plain.new.self
+    c.turns.input c.pass_plain.new.input c.in-Some.is c.in-Ok.ensures.passes in
     let t = c.in-Ok-turn.ensures.turns w.0 w.2 in
     let held : c.len-earlier.result ≡ length c.pass_plain.new.self.output = search rules in
     let grows : length c.pass_plain.new.self.output ≤ length c.turn.new.self.output =
@@ -181,7 +196,8 @@ flush-requires g c =
 
 pub returns-then-not-skip_in_hand-2-clause-gives : goal.returns-then-not-skip_in_hand-2-clause-gives
 returns-then-not-skip_in_hand-2-clause-gives g c =
-    let w = to_some c.in-Ok.lookahead c.in-Some.lookahead c.pass_plain.new.next c.turns.self c.pass_plain.new.self c.turns.input c.pass_plain.new.input c.in-Some.is c.in-Ok.ensures.passes in
+    let w = to_some c.in-Ok.lookahead c.in-Some.lookahead c.pass_plain.new.next c.turns.self c.pass_plain.new.self
+    c.turns.input c.pass_plain.new.input c.in-Some.is c.in-Ok.ensures.passes in
     let t = c.in-Ok-turn.ensures.turns w.0 w.2 in
     let r = passed c.args.wanted c.args.self.now c.turns.self c.pass_plain.new.self c.args.input.now.pending
     c.turns.input w.0 _ _ _ _ c.turns.invariant.runs w.1 in
@@ -198,7 +214,8 @@ returns-then-not-skip_in_hand-2-clause-gives g c =
 
 pub turns-smaller : goal.turns-smaller
 turns-smaller g c =
-    let w = to_some c.in-Ok.lookahead c.in-Some.lookahead c.pass_plain.new.next c.turns.self c.pass_plain.new.self c.turns.input c.pass_plain.new.input c.in-Some.is c.in-Ok.ensures.passes in
+    let w = to_some c.in-Ok.lookahead c.in-Some.lookahead c.pass_plain.new.next c.turns.self c.pass_plain.new.self
+    c.turns.input c.pass_plain.new.input c.in-Some.is c.in-Ok.ensures.passes in
     let t = c.in-Ok-turn.ensures.turns w.0 w.2 in
     fell_past_line c.turns.self c.pass_plain.new.self c.turn.new.self c.flush.new.self c.turns.input
     w.0 c.turn.new.input c.skip_in_hand-in-SkipsLine.new.self _ _ _ _ c.in-Ok-turn.turned w.1
@@ -210,7 +227,8 @@ turns-smaller g c =
 
 pub turns-preserved : goal.turns-preserved
 turns-preserved g c =
-    let w = to_some c.in-Ok.lookahead c.in-Some.lookahead c.pass_plain.new.next c.turns.self c.pass_plain.new.self c.turns.input c.pass_plain.new.input c.in-Some.is c.in-Ok.ensures.passes in
+    let w = to_some c.in-Ok.lookahead c.in-Some.lookahead c.pass_plain.new.next c.turns.self c.pass_plain.new.self
+    c.turns.input c.pass_plain.new.input c.in-Some.is c.in-Ok.ensures.passes in
     let t = c.in-Ok-turn.ensures.turns w.0 w.2 in
     let r = passed c.args.wanted c.args.self.now c.turns.self c.pass_plain.new.self c.args.input.now.pending
     c.turns.input w.0 _ _ _ _ c.turns.invariant.runs w.1 in
@@ -231,7 +249,8 @@ turns-preserved g c =
 
 pub returns-in-NeedsMore-clause-gives : goal.returns-in-NeedsMore-clause-gives
 returns-in-NeedsMore-clause-gives g c =
-    let w = to_some c.in-Ok.lookahead c.in-Some.lookahead c.pass_plain.new.next c.turns.self c.pass_plain.new.self c.turns.input c.pass_plain.new.input c.in-Some.is c.in-Ok.ensures.passes in
+    let w = to_some c.in-Ok.lookahead c.in-Some.lookahead c.pass_plain.new.next c.turns.self c.pass_plain.new.self
+    c.turns.input c.pass_plain.new.input c.in-Some.is c.in-Ok.ensures.passes in
     let t = c.in-Ok-turn.ensures.turns w.0 w.2 in
     let r = passed c.args.wanted c.args.self.now c.turns.self c.pass_plain.new.self c.args.input.now.pending
     c.turns.input w.0 _ _ _ _ c.turns.invariant.runs w.1 in
@@ -242,7 +261,8 @@ returns-in-NeedsMore-clause-gives g c =
 
 pub returns-in-Ends-clause-gives : goal.returns-in-Ends-clause-gives
 returns-in-Ends-clause-gives g c =
-    let w = to_some c.in-Ok.lookahead c.in-Some.lookahead c.pass_plain.new.next c.turns.self c.pass_plain.new.self c.turns.input c.pass_plain.new.input c.in-Some.is c.in-Ok.ensures.passes in
+    let w = to_some c.in-Ok.lookahead c.in-Some.lookahead c.pass_plain.new.next c.turns.self c.pass_plain.new.self
+    c.turns.input c.pass_plain.new.input c.in-Some.is c.in-Ok.ensures.passes in
     let t = c.in-Ok-turn.ensures.turns w.0 w.2 in
     let r = passed c.args.wanted c.args.self.now c.turns.self c.pass_plain.new.self c.args.input.now.pending
     c.turns.input w.0 _ _ _ _ c.turns.invariant.runs w.1 in
@@ -254,7 +274,8 @@ returns-in-Ends-clause-gives g c =
 
 pub returns-in-Err-flush-clause-order : goal.returns-in-Err-flush-clause-order
 returns-in-Err-flush-clause-order g c =
-    let w = to_some c.in-Ok.lookahead c.in-Some.lookahead c.pass_plain.new.next c.turns.self c.pass_plain.new.self c.turns.input c.pass_plain.new.input c.in-Some.is c.in-Ok.ensures.passes in
+    let w = to_some c.in-Ok.lookahead c.in-Some.lookahead c.pass_plain.new.next c.turns.self c.pass_plain.new.self
+    c.turns.input c.pass_plain.new.input c.in-Some.is c.in-Ok.ensures.passes in
     let t = c.in-Ok-turn.ensures.turns w.0 w.2 in
     let r = passed c.args.wanted c.args.self.now c.turns.self c.pass_plain.new.self c.args.input.now.pending
     c.turns.input w.0 _ _ _ _ c.turns.invariant.runs w.1 in
@@ -275,7 +296,8 @@ returns-in_default-clause-order g c = lack_gives_in_order c.args.wanted c.args.s
 
 pub returns-in_default-turn-clause-order : goal.returns-in_default-turn-clause-order
 returns-in_default-turn-clause-order g c =
-    let w = to_some c.in-Ok.lookahead c.in-Some.lookahead c.pass_plain.new.next c.turns.self c.pass_plain.new.self c.turns.input c.pass_plain.new.input c.in-Some.is c.in-Ok.ensures.passes in
+    let w = to_some c.in-Ok.lookahead c.in-Some.lookahead c.pass_plain.new.next c.turns.self c.pass_plain.new.self
+    c.turns.input c.pass_plain.new.input c.in-Some.is c.in-Ok.ensures.passes in
     let r = passed c.args.wanted c.args.self.now c.turns.self c.pass_plain.new.self c.args.input.now.pending
     c.turns.input w.0 _ _ _ _ c.turns.invariant.runs w.1 in
     lack_gives_in_order c.args.wanted c.args.self.now c.pass_plain.new.self c.turn.new.self c.args.input.now.pending

@@ -26,7 +26,8 @@ fronts-smaller-in_default-lookahead c =
     c.fronts.looked c.in_ok-len.len c.in-Some.text c.in-Some.others _ _ c.in-Some.is (search rules)
     c.in_ok-text.ensures.text c.in_ok-text.ensures.all c.in_ok-text.ensures.longer c.in_ok-text.ensures.first c.in_ok-len.ensures.passes in
     let at : Held = past c.in_ok-len.len c.fronts.input in
-    let same : c.consume.new.self ≡ at = past_none c.in_ok-len.len c.in_ok-len.token c.fronts.input c.consume.new.self (f.none (search rules)) c.consume.ensures in
+    let same : c.consume.new.self ≡ at = past_none c.in_ok-len.len c.in_ok-len.token c.fronts.input c.consume.new.self
+    (f.none (search rules)) c.consume.ensures in
     let more = subst (λ (v : Held). IsFurther 0 c.fronts.looked (c.fronts.input).pending v.pending) (sym same) (f.further (search rules) (search rules)) in
     measure_less c.fronts.looked 0 (c.fronts.input).pending (c.consume.new.self).pending c.fronts.invariant.looked more
 
@@ -36,11 +37,13 @@ fronts-preserved-in_default-lookahead c =
     c.fronts.looked c.in_ok-len.len c.in-Some.text c.in-Some.others _ _ c.in-Some.is (search rules)
     c.in_ok-text.ensures.text c.in_ok-text.ensures.all c.in_ok-text.ensures.longer c.in_ok-text.ensures.first c.in_ok-len.ensures.passes in
     let at : Held = past c.in_ok-len.len c.fronts.input in
-    let same : c.consume.new.self ≡ at = past_none c.in_ok-len.len c.in_ok-len.token c.fronts.input c.consume.new.self (f.none (search rules)) c.consume.ensures in
+    let same : c.consume.new.self ≡ at = past_none c.in_ok-len.len c.in_ok-len.token c.fronts.input c.consume.new.self
+    (f.none (search rules)) c.consume.ensures in
     let h = c.fronts.invariant in
     let r = passed_front c.args.self.now c.fronts.self c.pass_text.new.self c.args.input.now c.fronts.input
     at c.consume.new.self h.passes h.ready f.once same in
-    record { passes = r.0; ready = r.1; looked = (subst (λ (v : Held). IsFurther 0 c.fronts.looked (c.fronts.input).pending v.pending) (sym same) (f.further (search rules) (search rules))).0 }
+    record { passes = r.0; ready = r.1; looked = (subst (λ (v : Held). IsFurther 0 c.fronts.looked (c.fronts.input).pending
+    v.pending) (sym same) (f.further (search rules) (search rules))).0 }
 
 pub fronts-smaller : goal.fronts-smaller
 fronts-smaller c =
@@ -50,7 +53,8 @@ fronts-smaller c =
     let at : Held = past c.in_ok-len.len c.fronts.input in
     let joined : c.if-left-gt0.input ≡ c.consume.new.self =
     elim c.if-left-gt0.branch [ then-left-gt0 w ↦ search rules | else-left-gt0 w ↦ search rules ] in
-    let same : c.if-left-gt0.input ≡ at = joined ∙ past_none c.in_ok-len.len c.in_ok-len.token c.fronts.input c.consume.new.self (f.still_open (search rules)) c.consume.ensures in
+    let same : c.if-left-gt0.input ≡ at = joined ∙ past_none c.in_ok-len.len c.in_ok-len.token c.fronts.input
+    c.consume.new.self (f.still_open (search rules)) c.consume.ensures in
     let more = subst (λ (v : Held). IsFurther (length c.in-Some.text.now - c.in_ok-len.len) c.fronts.looked
     (c.fronts.input).pending v.pending) (sym same) (f.undecided c.if-not-others.false) in
     measure_less c.fronts.looked _ (c.fronts.input).pending (c.if-left-gt0.input).pending c.fronts.invariant.looked more
@@ -63,7 +67,8 @@ fronts-preserved c =
     let at : Held = past c.in_ok-len.len c.fronts.input in
     let joined : c.if-left-gt0.input ≡ c.consume.new.self =
     elim c.if-left-gt0.branch [ then-left-gt0 w ↦ search rules | else-left-gt0 w ↦ search rules ] in
-    let same : c.if-left-gt0.input ≡ at = joined ∙ past_none c.in_ok-len.len c.in_ok-len.token c.fronts.input c.consume.new.self (f.still_open (search rules)) c.consume.ensures in
+    let same : c.if-left-gt0.input ≡ at = joined ∙ past_none c.in_ok-len.len c.in_ok-len.token c.fronts.input
+    c.consume.new.self (f.still_open (search rules)) c.consume.ensures in
     let more = subst (λ (v : Held). IsFurther (length c.in-Some.text.now - c.in_ok-len.len) c.fronts.looked
     (c.fronts.input).pending v.pending) (sym same) (f.undecided c.if-not-others.false) in
     let h = c.fronts.invariant in
@@ -77,7 +82,8 @@ returns-then-len-ge-OUTPUT_BLOCK c =
     c.fronts.looked c.in_ok-len.len c.in-Some.text c.in-Some.others _ _ c.in-Some.is (search rules)
     c.in_ok-text.ensures.text c.in_ok-text.ensures.all c.in_ok-text.ensures.longer c.in_ok-text.ensures.first c.in_ok-len.ensures.passes in
     let at : Held = past c.in_ok-len.len c.fronts.input in
-    let same : c.consume.new.self ≡ at = past_none c.in_ok-len.len c.in_ok-len.token c.fronts.input c.consume.new.self (f.none (search rules)) c.consume.ensures in
+    let same : c.consume.new.self ≡ at = past_none c.in_ok-len.len c.in_ok-len.token c.fronts.input c.consume.new.self
+    (f.none (search rules)) c.consume.ensures in
     let h = c.fronts.invariant in
     record {
       passes = (
