@@ -15,7 +15,7 @@ const PIECE: usize = 16;
 /// The room that is added behind the end of a text, in bytes: enough for a piece, and for a short text.
 const ADDED: usize = 64;
 
-/// Behind a long text one byte more is added for so many of its own, so that it is moved the less often the longer it is.
+/// Behind a long text one byte more is added for so many of its own, so that a longer text is moved less often.
 const SHARE: usize = 16;
 
 /// A text that grows at its end. Its memory is kept when it is cleared. Contracts see its bytes.
