@@ -42,8 +42,12 @@ fronts-preserved-in_default-lookahead c =
     let h = c.fronts.invariant in
     let r = passed_front c.args.self.now c.fronts.self c.pass_text.new.self c.args.input.now c.fronts.input
     at c.consume.new.self h.passes h.ready f.once same in
-    record { passes = r.0; ready = r.1; looked = (subst (λ (v : Held). IsFurther 0 c.fronts.looked (c.fronts.input).pending
-    v.pending) (sym same) (f.further (search rules) (search rules))).0 }
+    record {
+      passes = r.0;
+      ready = r.1;
+      looked = (subst (λ (v : Held). IsFurther 0 c.fronts.looked (c.fronts.input).pending
+          v.pending) (sym same) (f.further (search rules) (search rules))).0;
+    }
 
 pub fronts-smaller : goal.fronts-smaller
 fronts-smaller c =
