@@ -27,8 +27,9 @@ pub const WHOLE: Given<'static> = Given {
 };
 
 /// The words of a line; standard input, and whether it fails after these bytes; whether a file can be made, and whether
-/// the outputs can be flushed; the room of the output and of the messages; and what the line leaves: its status, its
-/// output, at least and at most if a reader fails, its messages, and the name and the bytes of the file that is made.
+/// the outputs can be flushed; the room of the output and of the messages; and what the line leaves: its status, whether
+/// text was saved when the last file ended, its output, at least and at most if a reader fails, its messages, and the
+/// name and the bytes of the file that is made.
 pub struct Row {
     pub name: &'static str,
     pub words: &'static [&'static str],
@@ -39,6 +40,7 @@ pub struct Row {
     pub room: usize,
     pub space: usize,
     pub status: u8,
+    pub saves: bool,
     pub output: &'static str,
     pub most: Option<&'static str>,
     pub messages: &'static str,
@@ -56,6 +58,7 @@ pub const QUIET: Row = Row {
     room: 1000,
     space: 1000,
     status: 0,
+    saves: false,
     output: "",
     most: None,
     messages: "",
@@ -120,6 +123,13 @@ pub fn add_made(world: &MemWorld<'static>, report: &mut Report) {
     }
 }
 
+// Adds that text was saved when the last file ended, if it was.
+fn add_saved(saves: bool, report: &mut Report) {
+    if saves {
+        report.add(b", with saved text");
+    }
+}
+
 // Adds the least and the most output.
 fn add_bounds(least: &str, most: &str, report: &mut Report) {
     for piece in ["between <", least, "> and <", most, ">"] {
@@ -148,6 +158,7 @@ fn printed(
 ) -> Result<Vec<u8>, AllocError> {
     let mut report = Report::new(alloc);
     report.print(&end.status);
+    add_saved(end.ending.wrapped, &mut report);
     if !row.flushes {
         report.print(&end.failure);
     }
@@ -182,6 +193,7 @@ fn seen(rt: &(impl Abort + Alloc<A = Global>), row: &Row) -> Result<Vec<u8>, All
 fn expected(alloc: Global, row: &Row) -> Result<Vec<u8>, AllocError> {
     let mut report = Report::new(alloc);
     report.print(&row.status);
+    add_saved(row.saves, &mut report);
     if !row.flushes {
         report.print(&Some(Failure::Write));
     }

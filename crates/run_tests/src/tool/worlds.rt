@@ -5,7 +5,7 @@ use super::following::{QUIET, Row, WHOLE, compare};
 use m4_tool::given::Given;
 
 /// The files of all rows: the name, the bytes, and whether the reader fails after them.
-pub static FILES: [Given<'static>; 13] = world! {
+pub static FILES: [Given<'static>; 15] = world! {
     b"a" => b"hi\n";
     b"b" => b"define(`x', `y')x\n";
     b"c" => b"x\n";
@@ -19,6 +19,8 @@ pub static FILES: [Given<'static>; 13] = world! {
     b"issues" => b"V1\nD0,1\nx\n";
     b"short" => b"V1\nT1,1\nab";
     b"returns" => b"V1\r\n";
+    b"saving" => b"V1\nF6,6\nm4wrapm4wrap\n";
+    b"saves" => b"m4wrap(`x')\n";
 };
 
 static LINES: [Row; 12] = lines! {
@@ -80,12 +82,15 @@ static MODES: [Row; 8] = lines! {
 };
 
 // The same for lines that freeze.
-static FROZEN: [Row; 4] = lines! {
+static FROZEN: [Row; 5] = lines! {
     "one file is reloaded and frozen to", ["-R", "empty", "-F", "empty", "a"] => "hi\n",
         made: Some(("empty", "# m4 frozen state\nV1\n# End of frozen state file\n"));
     "a state is frozen though a file cannot be opened", ["-R", "empty", "-F", "s", "none"] => "", status: 1,
         messages: "m4: cannot open `none'\n",
         made: Some(("s", "# m4 frozen state\nV1\n# End of frozen state file\n"));
+    "text is saved when the last file ends, and read before the state is frozen",
+        ["-R", "saving", "-F", "s", "saves"] => "\nx", saves: true,
+        made: Some(("s", "# m4 frozen state\nV1\nF6,6\nm4wrapm4wrap\n# End of frozen state file\n"));
     "a frozen file that cannot be made", ["-F", "s", "a"] => "hi\n", makes: false, status: 1,
         messages: "m4: write fault\n";
     "nothing is frozen if the output fills up", ["-F", "s", "a"] => "hi", room: 2, status: 1,
