@@ -9,7 +9,7 @@ use Rattle.m4_engine.specs.RunSteps.{UsesWriters}
 use Rattle.m4_engine.specs.Session.{SessionState, FinishGives, FreezeGives, FreezeUses, FrozenGives}
 use Rattle.m4_engine.specs.Session.{progress_of}
 use Rattle.m4_engine.specs.SessionFailures.{ThreeFail, WriteFails}
-use Rattle.m4_engine.specs.Writers.{Contents, Failures, Three, all_three, both, writers, IsSpared}
+use Rattle.m4_engine.specs.Writers.{Contents, Failures, Three, three, both, writers, IsSpared}
 use Rattle.m4_engine.proofs.Starts.{spares_any, spared_answer}
 use Rattle.m4_engine.proofs.Wrapping.{uses_none}
 use Rattle.m4_engine.specs.SessionSteps.{CloseGives, SparesBy}
@@ -39,25 +39,25 @@ module _ {O M Z : Type 0} (co : O → Option (List ℕ)) (cm : M → Option (Lis
   -- what the end of a run writes, and what it leaves of its session and its writers
   pub record Closes (freezes : Bool) (old : SessionState) (o : O) (m : M) (z : Z) (new : SessionState) (o' : O) (m' : M)
       (z' : Z) (r : Result Unit Stop) : Type 0 where
-    pub gives : CloseGives freezes old new (all_three co cm cz o o' m m' z z') r
+    pub gives : CloseGives freezes old new (three cz (both co cm o o' m m') z z') r
     pub order : BreaksBy r (Breaks (InEnd old.limits) (progress_of old) (both co cm o o' m m'))
     pub any_missing : new.any_missing ≡ old.any_missing
-    pub writers : UsesWriters freezes z z' (all_three fo fm fz o o' m m' z z') (all_three co cm cz o o' m m' z z') r
-    pub last : FreezeUses old z z' (all_three co cm cz o o' m m' z z') r
+    pub writers : UsesWriters freezes z z' (three fz (both fo fm o o' m m') z z') (three cz (both co cm o o' m m') z z') r
+    pub last : FreezeUses old z z' (three cz (both co cm o o' m m') z z') r
 
   pub freeze_closes : (freezes : Bool) (old : SessionState) (o : O) (m : M) (z : Z) (new : SessionState) (o' : O)
       (m' : M) (z' : Z) (r : Result Unit Stop) → freezes ≡ true
-      → FreezeGives old new (all_three co cm cz o o' m m' z z') r
+      → FreezeGives old new (three cz (both co cm o o' m m') z z') r
       → BreaksBy r (Breaks (InEnd old.limits) (progress_of old) (both co cm o o' m m'))
       → new.any_missing ≡ old.any_missing
-      → ThreeFail r (all_three fo fm fz o o' m m' z z') (all_three co cm cz o o' m m' z z')
-      → FreezeUses old z z' (all_three co cm cz o o' m m' z z') r
+      → ThreeFail r (three fz (both fo fm o o' m m') z z') (three cz (both co cm o o' m m') z z')
+      → FreezeUses old z z' (three cz (both co cm o o' m m') z z') r
       → Closes freezes old o m z new o' m' z' r
   freeze_closes freezes old o m z new o' m' z' r e h b a f u = subst (λ (x : Bool). Closes x old o m z new o' m' z' r) (sym e) (record {
     gives = h;
     order = b;
     any_missing = a;
-    writers = record { failed = f; spared = λ k. cc; spared_by = freeze_spares old (all_three co cm cz o o' m m' z z') r h.1 };
+    writers = record { failed = f; spared = λ k. cc; spared_by = freeze_spares old (three cz (both co cm o o' m m') z z') r h.1 };
     last = u;
   })
 
@@ -71,11 +71,11 @@ module _ {O M Z : Type 0} (co : O → Option (List ℕ)) (cm : M → Option (Lis
     order = b;
     any_missing = a;
     writers = record {
-      failed = finish_fails (both fo fm o o' m m') (fz z) (all_three co cm cz o o' m m' z z) r refl f;
+      failed = finish_fails (both fo fm o o' m m') (fz z) (three cz (both co cm o o' m m') z z) r refl f;
       spared = λ k. refl;
-      spared_by = finish_spares (all_three co cm cz o o' m m' z z) r refl;
+      spared_by = finish_spares (three cz (both co cm o o' m m') z z) r refl;
     };
-    last = uses_none old z z (all_three co cm cz o o' m m' z z) r refl;
+    last = uses_none old z z (three cz (both co cm o o' m m') z z) r refl;
   })
 
   -- the same where the two ways join

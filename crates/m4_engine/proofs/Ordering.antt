@@ -256,46 +256,47 @@ missing_told old new name w (Err (stops.Ended causes.Write)) l e h = missing_bre
 missing_told old new name w (Err (stops.Ended causes.OutOfMemory)) l e h = absurd h
 missing_told old new name w r l e h = tt
 
-pub unopened_told : {R : Type 0} (script : R → Option Script) (old new : SessionState) (name : List ℕ)
-    (first after : RunSource R) (w : Contents) (r : Result Unit Stop) (s : Source) → first ≡ sources.Unopened name
-    → IsOpen old → DescribesSource script first after s → w.out_new ≡ w.out_old
-    → MissingGives name old new w.messages_old w.messages_new r
-    → BreaksBy r (Breaks (IsStepOf old.limits s) (progress_of old) w)
-unopened_told script old new name first after w r s f l t o h =
-    let k : DescribesSource script (sources.Unopened name) after s = subst (λ x. DescribesSource script x after s) f t in
-    subst (λ (s : Source). BreaksBy r (Breaks (IsStepOf old.limits s) (progress_of old) w))
-    (unopened_is script name after s k) (missing_told old new name w r l o h)
+module _ {R : Type 0} (script : R → Option Script) where
+  pub unopened_told : (old new : SessionState) (name : List ℕ)
+      (first after : RunSource R) (w : Contents) (r : Result Unit Stop) (s : Source) → first ≡ sources.Unopened name
+      → IsOpen old → DescribesSource script first after s → w.out_new ≡ w.out_old
+      → MissingGives name old new w.messages_old w.messages_new r
+      → BreaksBy r (Breaks (IsStepOf old.limits s) (progress_of old) w)
+  unopened_told old new name first after w r s f l t o h =
+      let k : DescribesSource script (sources.Unopened name) after s = subst (λ x. DescribesSource script x after s) f t in
+      subst (λ (s : Source). BreaksBy r (Breaks (IsStepOf old.limits s) (progress_of old) w))
+      (unopened_is script name after s k) (missing_told old new name w r l o h)
 
--- one that was opened
-pub opened_told : {R : Type 0} (script : R → Option Script) (old : SessionState) (name : List ℕ) (before later : R)
-    (first after : RunSource R) (w : Contents) (r : Result Unit Stop) (s : Source)
-    → first ≡ sources.Opened name before → after ≡ sources.Opened name later → DescribesSource script first after s
-    → BreaksBy r (FileBreaks old.limits (progress_of old) name (script before) (script later) w)
-    → BreaksBy r (Breaks (IsStepOf old.limits s) (progress_of old) w)
-opened_told script old name before later first after w r s f b t h =
-    let k : DescribesSource script (sources.Opened name before) (sources.Opened name later) s =
-    subst (λ x. DescribesSource script x (sources.Opened name later) s) f
-    (subst (λ x. DescribesSource script first x s) b t) in
-    let u : Suits name (script before) (script later) s = described_suit script name before (sources.Opened name later) s k in
-    by_answer r (so_of name (script before) (script later) s (λ x. Unit) (λ s. Breaks (IsStepOf old.limits s) (progress_of old) w) u) h
-  where
-    by_answer : {P Q : Type 0} (r : Result Unit Stop) → (P → Q) → BreaksBy r P → BreaksBy r Q
-    by_answer (Ok done) f h = tt
-    by_answer (Err e) f h = stop_breaks Unit Unit e _ _ f h
+  -- one that was opened
+  pub opened_told : (old : SessionState) (name : List ℕ) (before later : R)
+      (first after : RunSource R) (w : Contents) (r : Result Unit Stop) (s : Source)
+      → first ≡ sources.Opened name before → after ≡ sources.Opened name later → DescribesSource script first after s
+      → BreaksBy r (FileBreaks old.limits (progress_of old) name (script before) (script later) w)
+      → BreaksBy r (Breaks (IsStepOf old.limits s) (progress_of old) w)
+  opened_told old name before later first after w r s f b t h =
+      let k : DescribesSource script (sources.Opened name before) (sources.Opened name later) s =
+      subst (λ x. DescribesSource script x (sources.Opened name later) s) f
+      (subst (λ x. DescribesSource script first x s) b t) in
+      let u : Suits name (script before) (script later) s = described_suit script name before (sources.Opened name later) s k in
+      by_answer r (so_of name (script before) (script later) s (λ x. Unit) (λ s. Breaks (IsStepOf old.limits s) (progress_of old) w) u) h
+    where
+      by_answer : {P Q : Type 0} (r : Result Unit Stop) → (P → Q) → BreaksBy r P → BreaksBy r Q
+      by_answer (Ok done) f h = tt
+      by_answer (Err e) f h = stop_breaks Unit Unit e _ _ f h
 
--- one whose name could not be held
-pub unread_told : {R : Type 0} (script : R → Option Script) (old : SessionState) (name : List ℕ) (reader : R)
-    (first : RunSource R) (w : Contents) (r : Result Unit Stop) (s : Source) → first ≡ sources.Opened name reader
-    → IsOpen old → DescribesSource script first (sources.Opened name reader) s → w.out_new ≡ w.out_old
-    → w.messages_new ≡ w.messages_old → BreaksBy r (Breaks (IsStepOf old.limits s) (progress_of old) w)
-unread_told script old name reader first w r s f l t h i =
-    let k : DescribesSource script (sources.Opened name reader) (sources.Opened name reader) s =
-    subst (λ x. DescribesSource script x (sources.Opened name reader) s) f t in
-    let u = described_suit script name reader (sources.Opened name reader) s k [] true (none_taken (script reader)) (λ e. absurd (not_so e)) in
-    any_breaks r _ (subst (λ (s : Source). Breaks (IsStepOf old.limits s) (progress_of old) w) (sym u.2) (silent_source old name u.0 w l h i))
-  where
-    not_so : true ≡ false → ⊥
-    not_so e = cc
+  -- one whose name could not be held
+  pub unread_told : (old : SessionState) (name : List ℕ) (reader : R)
+      (first : RunSource R) (w : Contents) (r : Result Unit Stop) (s : Source) → first ≡ sources.Opened name reader
+      → IsOpen old → DescribesSource script first (sources.Opened name reader) s → w.out_new ≡ w.out_old
+      → w.messages_new ≡ w.messages_old → BreaksBy r (Breaks (IsStepOf old.limits s) (progress_of old) w)
+  unread_told old name reader first w r s f l t h i =
+      let k : DescribesSource script (sources.Opened name reader) (sources.Opened name reader) s =
+      subst (λ x. DescribesSource script x (sources.Opened name reader) s) f t in
+      let u = described_suit script name reader (sources.Opened name reader) s k [] true (none_taken (script reader)) (λ e. absurd (not_so e)) in
+      any_breaks r _ (subst (λ (s : Source). Breaks (IsStepOf old.limits s) (progress_of old) w) (sym u.2) (silent_source old name u.0 w l h i))
+    where
+      not_so : true ≡ false → ⊥
+      not_so e = cc
 
 -- ---- the sources and the end of a run
 

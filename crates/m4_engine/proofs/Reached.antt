@@ -239,140 +239,141 @@ module _ {R : Type 0} (script : R → Option Script) (name : List ℕ) (before l
   ended_within : Within
   ended_within = by_flag (h.0).may_follow refl
 
--- a file, by the answer
-pub file_source : {R : Type 0} (script : R → Option Script) (name : List ℕ) (before after' : R)
-    (old new : SessionState) (w : Contents) (r : Result Unit Stop) → IsOpen old
-    → FileGives name (script before) (script after') old new w r
-    → SourceGives script (sources.Opened name before) (sources.Opened name after') old new w r
-file_source script name before after' old new w (Ok done) l h = (Opened name h.0, (refl, refl, h.1, h.2), h.3)
-file_source script name before after' old new w (Err stops.Finished) l h = absurd ((h.0).closed l)
-file_source script name before after' old new w (Err (stops.Ended causes.Read)) l h =
-    (name, h.x, (refl, refl, h.given), fell_so old new name (script before) (script after') w l h, (refl, h.at_fault))
-file_source script name before after' old new w (Err (stops.Ended causes.Write)) l h =
-    (name, (h.0).x, (refl, refl, (h.0).given), asked_so old name (h.0).x w causes.Write l tt (h.0).asked, tt)
-file_source script name before after' old new w (Err (stops.Ended causes.OutOfMemory)) l h =
-    (name, (h.0).x, (refl, refl, (h.0).given), asked_so old name (h.0).x w causes.OutOfMemory l tt (h.0).asked, tt)
-file_source script name before after' old new w (Err (stops.Ended causes.Done)) l h = absurd h
-file_source script name before after' old new w (Err (stops.Ended (causes.Frozen f))) l h = absurd h
-file_source script name before after' old new w (Err (stops.Ended cause)) l h =
-    ended_within script name before after' old new w cause l h (λ x. tt) (λ s a l c e. e)
+module _ {R : Type 0} (script : R → Option Script) where
+  -- a file, by the answer
+  pub file_source : (name : List ℕ) (before after' : R) (old new : SessionState) (w : Contents) (r : Result Unit Stop) → IsOpen old
+      → FileGives name (script before) (script after') old new w r
+      → SourceGives script (sources.Opened name before) (sources.Opened name after') old new w r
+  file_source name before after' old new w (Ok done) l h = (Opened name h.0, (refl, refl, h.1, h.2), h.3)
+  file_source name before after' old new w (Err stops.Finished) l h = absurd ((h.0).closed l)
+  file_source name before after' old new w (Err (stops.Ended causes.Read)) l h =
+      (name, h.x, (refl, refl, h.given), fell_so old new name (script before) (script after') w l h, (refl, h.at_fault))
+  file_source name before after' old new w (Err (stops.Ended causes.Write)) l h =
+      (name, (h.0).x, (refl, refl, (h.0).given), asked_so old name (h.0).x w causes.Write l tt (h.0).asked, tt)
+  file_source name before after' old new w (Err (stops.Ended causes.OutOfMemory)) l h =
+      (name, (h.0).x, (refl, refl, (h.0).given), asked_so old name (h.0).x w causes.OutOfMemory l tt (h.0).asked, tt)
+  file_source name before after' old new w (Err (stops.Ended causes.Done)) l h = absurd h
+  file_source name before after' old new w (Err (stops.Ended (causes.Frozen f))) l h = absurd h
+  file_source name before after' old new w (Err (stops.Ended cause)) l h =
+      ended_within script name before after' old new w cause l h (λ x. tt) (λ s a l c e. e)
 
-pub file_so : {R : Type 0} (script : R → Option Script) (name : List ℕ) (before later : R) (first last : RunSource R)
-    (old new : SessionState) (w : Contents) (r : Result Unit Stop) → first ≡ sources.Opened name before
-    → last ≡ sources.Opened name later → IsOpen old → FileGives name (script before) (script later) old new w r
-    → SourceGives script first last old new w r
-file_so script name before later first last old new w r f b l h =
-    subst (λ x. SourceGives script x last old new w r) (sym f)
-    (subst (λ x. SourceGives script (sources.Opened name before) x old new w r) (sym b) (file_source script name before later old new w r l h))
+  pub file_so : (name : List ℕ) (before later : R) (first last : RunSource R)
+      (old new : SessionState) (w : Contents) (r : Result Unit Stop) → first ≡ sources.Opened name before
+      → last ≡ sources.Opened name later → IsOpen old → FileGives name (script before) (script later) old new w r
+      → SourceGives script first last old new w r
+  file_so name before later first last old new w r f b l h =
+      subst (λ x. SourceGives script x last old new w r) (sym f)
+      (subst (λ x. SourceGives script (sources.Opened name before) x old new w r) (sym b) (file_source name before later old new w r l h))
 
--- a source that wasn't opened
-missing_source : {R : Type 0} (script : R → Option Script) (name : List ℕ) (old new : SessionState) (w : Contents)
-    (r : Result Unit Stop) → IsOpen old → w.out_new ≡ w.out_old
-    → MissingGives name old new w.messages_old w.messages_new r
-    → SourceGives script (sources.Unopened name) (sources.Unopened name) old new w r
-missing_source script name old new w (Ok done) l o h = (Unopened name, (refl, refl), (missing_goes old new name w (Ok done) l o h).0)
-missing_source script name old new w (Err stops.Finished) l o h = absurd (h.0 l)
-missing_source script name old new w (Err (stops.Ended causes.Write)) l o h = (
-  name,
-  [],
-  (refl, refl, refl),
-  none_asked old name [] _ w causes.Write l tt
-      (record { output = o ∙ with_bytes-nil w.out_old; messages = ((h.1).1).holds }),
-  tt,
-)
-missing_source script name old new w (Err (stops.Ended cause)) l o h = absurd h
+  -- a source that wasn't opened
+  missing_source : (name : List ℕ) (old new : SessionState) (w : Contents)
+      (r : Result Unit Stop) → IsOpen old → w.out_new ≡ w.out_old
+      → MissingGives name old new w.messages_old w.messages_new r
+      → SourceGives script (sources.Unopened name) (sources.Unopened name) old new w r
+  missing_source name old new w (Ok done) l o h = (Unopened name, (refl, refl), (missing_goes old new name w (Ok done) l o h).0)
+  missing_source name old new w (Err stops.Finished) l o h = absurd (h.0 l)
+  missing_source name old new w (Err (stops.Ended causes.Write)) l o h = (
+    name,
+    [],
+    (refl, refl, refl),
+    none_asked old name [] _ w causes.Write l tt
+        (record { output = o ∙ with_bytes-nil w.out_old; messages = ((h.1).1).holds }),
+    tt,
+  )
+  missing_source name old new w (Err (stops.Ended cause)) l o h = absurd h
 
-pub missing_so : {R : Type 0} (script : R → Option Script) (name : List ℕ) (x y : RunSource R)
-    (old new : SessionState) (w : Contents) (r : Result Unit Stop) → x ≡ sources.Unopened name
-    → y ≡ sources.Unopened name → IsOpen old → w.out_new ≡ w.out_old
-    → MissingGives name old new w.messages_old w.messages_new r → SourceGives script x y old new w r
-missing_so script name x y old new w r e f l o h =
-    subst (λ z. SourceGives script z y old new w r) (sym e)
-    (subst (λ z. SourceGives script (sources.Unopened name) z old new w r) (sym f) (missing_source script name old new w r l o h))
+  pub missing_so : (name : List ℕ) (x y : RunSource R) (old new : SessionState) (w : Contents) (r : Result Unit Stop) → x ≡ sources.Unopened name
+      → y ≡ sources.Unopened name → IsOpen old → w.out_new ≡ w.out_old
+      → MissingGives name old new w.messages_old w.messages_new r → SourceGives script x y old new w r
+  missing_so name x y old new w r e f l o h =
+      subst (λ z. SourceGives script z y old new w r) (sym e)
+      (subst (λ z. SourceGives script (sources.Unopened name) z old new w r) (sym f) (missing_source name old new w r l o h))
 
 -- a source that wasn't read, for want of memory
 same_bytes : (s : Option Script) → s ≡ after_bytes [] s
 same_bytes s = (reads_nothing s (file_pending [] [] true)).given
 
-unread_within : {R : Type 0} (script : R → Option Script) (x : RunSource R) (old : SessionState)
-    (out reported : Option (List ℕ)) → IsOpen old
-    → EndsWithin script x x old (writers out out reported reported) causes.OutOfMemory
-unread_within script (sources.Opened name r) old out reported l = (
-  name,
-  [],
-  (refl, refl, same_bytes (script r)),
-  none_asked old name [] [] (writers out out reported reported) causes.OutOfMemory l tt
-      (record { output = with_bytes-nil out; messages = with_bytes-nil reported }),
-  tt,
-)
-unread_within script (sources.Unopened name) old out reported l = (
-  name,
-  [],
-  (refl, refl, refl),
-  none_asked old name [] [] (writers out out reported reported) causes.OutOfMemory l tt
-      (record { output = with_bytes-nil out; messages = with_bytes-nil reported }),
-  tt,
-)
+module _ {R : Type 0} (script : R → Option Script) where
+  unread_within : (x : RunSource R) (old : SessionState)
+      (out reported : Option (List ℕ)) → IsOpen old
+      → EndsWithin script x x old (writers out out reported reported) causes.OutOfMemory
+  unread_within (sources.Opened name r) old out reported l = (
+    name,
+    [],
+    (refl, refl, same_bytes (script r)),
+    none_asked old name [] [] (writers out out reported reported) causes.OutOfMemory l tt
+        (record { output = with_bytes-nil out; messages = with_bytes-nil reported }),
+    tt,
+  )
+  unread_within (sources.Unopened name) old out reported l = (
+    name,
+    [],
+    (refl, refl, refl),
+    none_asked old name [] [] (writers out out reported reported) causes.OutOfMemory l tt
+        (record { output = with_bytes-nil out; messages = with_bytes-nil reported }),
+    tt,
+  )
 
-pub unread_so : {R : Type 0} (script : R → Option Script) (x y : RunSource R) (old new : SessionState)
-    (out reported : Option (List ℕ)) (r : Result Unit Stop) → x ≡ y → r ≡ Err (stops.Ended causes.OutOfMemory)
-    → IsOpen old → SourceGives script x y old new (writers out out reported reported) r
-unread_so script x y old new out reported r f i l =
-    subst (λ z. SourceGives script x z old new (writers out out reported reported) r) f
-    (subst (λ (z : Result Unit Stop). SourceGives script x x old new (writers out out reported reported) z) (sym i) (unread_within script x old out reported l))
+  pub unread_so : (x y : RunSource R) (old new : SessionState)
+      (out reported : Option (List ℕ)) (r : Result Unit Stop) → x ≡ y → r ≡ Err (stops.Ended causes.OutOfMemory)
+      → IsOpen old → SourceGives script x y old new (writers out out reported reported) r
+  unread_so x y old new out reported r f i l =
+      subst (λ z. SourceGives script x z old new (writers out out reported reported) r) f
+      (subst (λ (z : Result Unit Stop). SourceGives script x x old new (writers out out reported reported) z) (sym i) (unread_within x old out reported l))
 
 -- ---- the sources in order
 
--- the first i sources were read to their ends
-abbrev pub FirstRead : {R : Type 0} → (R → Option Script) → ℕ → List (RunSource R) → List (RunSource R) → List Source → Type 0
-FirstRead script zero before after' [] = Unit {0}
-FirstRead script (suc i) (x ∷ xs) (y ∷ ys) (s ∷ ss) = IsRead script x y s × FirstRead script i xs ys ss
-FirstRead script i before after' ss = ⊥
+module _ {R : Type 0} (script : R → Option Script) where
+  -- the first i sources were read to their ends
+  abbrev pub FirstRead : ℕ → List (RunSource R) → List (RunSource R) → List Source → Type 0
+  FirstRead zero before after' [] = Unit {0}
+  FirstRead (suc i) (x ∷ xs) (y ∷ ys) (s ∷ ss) = IsRead script x y s × FirstRead i xs ys ss
+  FirstRead i before after' ss = ⊥
 
--- the next source was read too
-next_read : {R : Type 0} (script : R → Option Script) (i : ℕ) (xs ys : List (RunSource R)) (x v : RunSource R)
-    (ss : List Source) (t : Source) → drop i xs ≡ drop i ys → drop i xs ≡ x ∷ drop (suc i) xs
-    → FirstRead script i ys xs ss → IsRead script x v t
-    → FirstRead script (suc i) ys (slice_set xs i v) (ss ++ t ∷ [])
-next_read script zero [] ys x v ss t e d f h = cc
-next_read script zero (a ∷ xs) [] x v ss t e d f h = cc
-next_read script zero (a ∷ xs) (b ∷ ys) x v [] t e d f h =
-    let k : x ≡ b = cc in
-    (subst (λ (y : RunSource _). IsRead script y v t) k h, tt)
-next_read script zero (a ∷ xs) (b ∷ ys) x v (s ∷ ss) t e d f h = absurd f
-next_read script (suc i) [] ys x v ss t e d f h = cc
-next_read script (suc i) (a ∷ xs) [] x v ss t e d f h = absurd f
-next_read script (suc i) (a ∷ xs) (b ∷ ys) x v [] t e d f h = absurd f
-next_read script (suc i) (a ∷ xs) (b ∷ ys) x v (s ∷ ss) t e d f h = (f.0, next_read script i xs ys x v ss t e d f.1 h)
+  -- the next source was read too
+  next_read : (i : ℕ) (xs ys : List (RunSource R)) (x v : RunSource R)
+      (ss : List Source) (t : Source) → drop i xs ≡ drop i ys → drop i xs ≡ x ∷ drop (suc i) xs
+      → FirstRead i ys xs ss → IsRead script x v t
+      → FirstRead (suc i) ys (slice_set xs i v) (ss ++ t ∷ [])
+  next_read zero [] ys x v ss t e d f h = cc
+  next_read zero (a ∷ xs) [] x v ss t e d f h = cc
+  next_read zero (a ∷ xs) (b ∷ ys) x v [] t e d f h =
+      let k : x ≡ b = cc in
+      (subst (λ (y : RunSource _). IsRead script y v t) k h, tt)
+  next_read zero (a ∷ xs) (b ∷ ys) x v (s ∷ ss) t e d f h = absurd f
+  next_read (suc i) [] ys x v ss t e d f h = cc
+  next_read (suc i) (a ∷ xs) [] x v ss t e d f h = absurd f
+  next_read (suc i) (a ∷ xs) (b ∷ ys) x v [] t e d f h = absurd f
+  next_read (suc i) (a ∷ xs) (b ∷ ys) x v (s ∷ ss) t e d f h = (f.0, next_read i xs ys x v ss t e d f.1 h)
 
--- the next source is the current one
-next_reached : {R : Type 0} (script : R → Option Script) (i : ℕ) (xs ys : List (RunSource R)) (x v : RunSource R)
-    (ss : List Source) (name taken : List ℕ) → drop i xs ≡ drop i ys → drop i xs ≡ x ∷ drop (suc i) xs
-    → FirstRead script i ys xs ss → IsCurrent script x v name taken
-    → Reaches script ys (slice_set xs i v) ss name taken
-next_reached script zero [] ys x v ss name taken e d f h = cc
-next_reached script zero (a ∷ xs) [] x v ss name taken e d f h = cc
-next_reached script zero (a ∷ xs) (b ∷ ys) x v [] name taken e d f h =
-    let k : x ≡ b = cc in
-    let l : xs ≡ ys = cc in
-    (subst (λ (y : RunSource _). IsCurrent script y v name taken) k h, l)
-next_reached script zero (a ∷ xs) (b ∷ ys) x v (s ∷ ss) name taken e d f h = absurd f
-next_reached script (suc i) [] ys x v ss name taken e d f h = cc
-next_reached script (suc i) (a ∷ xs) [] x v ss name taken e d f h = absurd f
-next_reached script (suc i) (a ∷ xs) (b ∷ ys) x v [] name taken e d f h = absurd f
-next_reached script (suc i) (a ∷ xs) (b ∷ ys) x v (s ∷ ss) name taken e d f h = (f.0, next_reached script i xs ys x v ss name taken e d f.1 h)
+  -- the next source is the current one
+  next_reached : (i : ℕ) (xs ys : List (RunSource R)) (x v : RunSource R)
+      (ss : List Source) (name taken : List ℕ) → drop i xs ≡ drop i ys → drop i xs ≡ x ∷ drop (suc i) xs
+      → FirstRead i ys xs ss → IsCurrent script x v name taken
+      → Reaches script ys (slice_set xs i v) ss name taken
+  next_reached zero [] ys x v ss name taken e d f h = cc
+  next_reached zero (a ∷ xs) [] x v ss name taken e d f h = cc
+  next_reached zero (a ∷ xs) (b ∷ ys) x v [] name taken e d f h =
+      let k : x ≡ b = cc in
+      let l : xs ≡ ys = cc in
+      (subst (λ (y : RunSource _). IsCurrent script y v name taken) k h, l)
+  next_reached zero (a ∷ xs) (b ∷ ys) x v (s ∷ ss) name taken e d f h = absurd f
+  next_reached (suc i) [] ys x v ss name taken e d f h = cc
+  next_reached (suc i) (a ∷ xs) [] x v ss name taken e d f h = absurd f
+  next_reached (suc i) (a ∷ xs) (b ∷ ys) x v [] name taken e d f h = absurd f
+  next_reached (suc i) (a ∷ xs) (b ∷ ys) x v (s ∷ ss) name taken e d f h = (f.0, next_reached i xs ys x v ss name taken e d f.1 h)
 
--- what its reader was left with
-left_at : {R : Type 0} (script : R → Option Script) (i : ℕ) (xs ys : List (RunSource R)) (x v : RunSource R)
-    (ss : List Source) → drop i xs ≡ x ∷ drop (suc i) xs → FirstRead script i ys xs ss
-    → script_of script v ≡ left_after script (slice_set xs i v) ss
-left_at script zero [] ys x v ss d f = cc
-left_at script zero (a ∷ xs) ys x v [] d f = refl
-left_at script zero (a ∷ xs) ys x v (s ∷ ss) d f = absurd f
-left_at script (suc i) [] ys x v ss d f = cc
-left_at script (suc i) (a ∷ xs) [] x v ss d f = absurd f
-left_at script (suc i) (a ∷ xs) (b ∷ ys) x v [] d f = absurd f
-left_at script (suc i) (a ∷ xs) (b ∷ ys) x v (s ∷ ss) d f = left_at script i xs ys x v ss d f.1
+  -- what its reader was left with
+  left_at : (i : ℕ) (xs ys : List (RunSource R)) (x v : RunSource R)
+      (ss : List Source) → drop i xs ≡ x ∷ drop (suc i) xs → FirstRead i ys xs ss
+      → script_of script v ≡ left_after script (slice_set xs i v) ss
+  left_at zero [] ys x v ss d f = cc
+  left_at zero (a ∷ xs) ys x v [] d f = refl
+  left_at zero (a ∷ xs) ys x v (s ∷ ss) d f = absurd f
+  left_at (suc i) [] ys x v ss d f = cc
+  left_at (suc i) (a ∷ xs) [] x v ss d f = absurd f
+  left_at (suc i) (a ∷ xs) (b ∷ ys) x v [] d f = absurd f
+  left_at (suc i) (a ∷ xs) (b ∷ ys) x v (s ∷ ss) d f = left_at i xs ys x v ss d f.1
 
 -- where it ended, after what came before
 sum_map : (cause : Cause) (s s' : SettledSoFar) (all : Type 0) (left left' : Option Script) (c c' : Type 0)
@@ -387,41 +388,42 @@ ended_map causes.OutOfMemory s s' all left left' c c' e f g h = tt
 ended_map causes.Read s s' all left left' c c' e f g h = (h.0, subst IsAtFault f h.1)
 ended_map cause s s' all left left' c c' e f g h = sum_map cause s s' all left left' c c' e f g h
 
--- all were read
-were_read : {R : Type 0} (script : R → Option Script) (i : ℕ) (xs ys : List (RunSource R)) (ss : List Source)
-    → drop i xs ≡ drop i ys → length xs ≤ i → FirstRead script i ys xs ss → AreRead script ys xs ss
-were_read script zero [] [] [] e l f = tt
-were_read script zero [] [] (s ∷ ss) e l f = absurd f
-were_read script zero [] (b ∷ ys) ss e l f = cc
-were_read script zero (a ∷ xs) ys ss e l f = absurd (omega arith)
-were_read script (suc i) [] [] ss e l f = absurd f
-were_read script (suc i) [] (b ∷ ys) [] e l f = absurd f
-were_read script (suc i) [] (b ∷ ys) (s ∷ ss) e l f = absurd f
-were_read script (suc i) (a ∷ xs) [] ss e l f = absurd f
-were_read script (suc i) (a ∷ xs) (b ∷ ys) [] e l f = absurd f
-were_read script (suc i) (a ∷ xs) (b ∷ ys) (s ∷ ss) e l f = (f.0, were_read script i xs ys ss e (omega arith) f.1)
+module _ {R : Type 0} (script : R → Option Script) where
+  -- all were read
+  were_read : (i : ℕ) (xs ys : List (RunSource R)) (ss : List Source)
+      → drop i xs ≡ drop i ys → length xs ≤ i → FirstRead script i ys xs ss → AreRead script ys xs ss
+  were_read zero [] [] [] e l f = tt
+  were_read zero [] [] (s ∷ ss) e l f = absurd f
+  were_read zero [] (b ∷ ys) ss e l f = cc
+  were_read zero (a ∷ xs) ys ss e l f = absurd (omega arith)
+  were_read (suc i) [] [] ss e l f = absurd f
+  were_read (suc i) [] (b ∷ ys) [] e l f = absurd f
+  were_read (suc i) [] (b ∷ ys) (s ∷ ss) e l f = absurd f
+  were_read (suc i) (a ∷ xs) [] ss e l f = absurd f
+  were_read (suc i) (a ∷ xs) (b ∷ ys) [] e l f = absurd f
+  were_read (suc i) (a ∷ xs) (b ∷ ys) (s ∷ ss) e l f = (f.0, were_read i xs ys ss e (omega arith) f.1)
 
--- so far the sources were read: this was written, and the session goes on from there
-pub record ReadSoFar {R : Type 0} (script : R → Option Script) (i : ℕ) (before after' : List (RunSource R)) (s0 s : SessionState) (w : Contents) : Type 0 where
-  pub ss : List Source
-  pub first : FirstRead script i before after' ss
-  pub o : List ℕ
-  pub m : List ℕ
-  pub written : HasWritten o m w
-  pub limits : s.limits ≡ s0.limits
-  pub here : after_sources s0.limits ss (progress_of s0) ≡ after o m (progress_of s)
+  -- so far the sources were read: this was written, and the session goes on from there
+  pub record ReadSoFar (i : ℕ) (before after' : List (RunSource R)) (s0 s : SessionState) (w : Contents) : Type 0 where
+    pub ss : List Source
+    pub first : FirstRead script i before after' ss
+    pub o : List ℕ
+    pub m : List ℕ
+    pub written : HasWritten o m w
+    pub limits : s.limits ≡ s0.limits
+    pub here : after_sources s0.limits ss (progress_of s0) ≡ after o m (progress_of s)
 
-pub none_yet : {R : Type 0} (script : R → Option Script) (xs : List (RunSource R)) (s : SessionState)
-    (out reported : Option (List ℕ)) → ReadSoFar script 0 xs xs s s (writers out out reported reported)
-none_yet script xs s out reported = record {
-  ss = [];
-  first = tt;
-  o = [];
-  m = [];
-  written = record { output = with_bytes-nil out; messages = with_bytes-nil reported };
-  limits = refl;
-  here = refl;
-}
+  pub none_yet : (xs : List (RunSource R)) (s : SessionState)
+      (out reported : Option (List ℕ)) → ReadSoFar 0 xs xs s s (writers out out reported reported)
+  none_yet xs s out reported = record {
+    ss = [];
+    first = tt;
+    o = [];
+    m = [];
+    written = record { output = with_bytes-nil out; messages = with_bytes-nil reported };
+    limits = refl;
+    here = refl;
+  }
 
 module _ {R : Type 0} (script : R → Option Script) (i : ℕ) (xs ys : List (RunSource R)) (x v : RunSource R)
     (s0 s s' : SessionState) (out0 out out' reported0 reported reported' : Option (List ℕ))

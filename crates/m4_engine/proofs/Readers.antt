@@ -25,40 +25,40 @@ pub sound_same : {R : Type 0} (failures : R → ℕ) (x : RunSource R) → is_so
 sound_same failures (sources.Opened name r) = refl
 sound_same failures (sources.Unopened name) = tt
 
--- a source by its reader
-opened_fails : {R : Type 0} (script : R → Option Script) (failures : R → ℕ) (name n : List ℕ) (before later : R)
-    (old new : SessionState) (w : Contents) (r : Result Unit Stop)
-    → ReadFails r (failures before) (failures later) → FileGives name (script before) (script later) old new w r
-    → SourceFails script failures r (sources.Opened name before) (sources.Opened n later)
-opened_fails script failures name n before later old new w (Err (stops.Ended causes.Read)) h g = (h, g.at_fault)
-opened_fails script failures name n before later old new w r h g = h
+module _ {R : Type 0} (script : R → Option Script) (failures : R → ℕ) where
+  -- a source by its reader
+  opened_fails : (name n : List ℕ) (before later : R)
+      (old new : SessionState) (w : Contents) (r : Result Unit Stop)
+      → ReadFails r (failures before) (failures later) → FileGives name (script before) (script later) old new w r
+      → SourceFails script failures r (sources.Opened name before) (sources.Opened n later)
+  opened_fails name n before later old new w (Err (stops.Ended causes.Read)) h g = (h, g.at_fault)
+  opened_fails name n before later old new w r h g = h
 
-pub source_fails : {R : Type 0} (script : R → Option Script) (failures : R → ℕ) (name n : List ℕ) (before later : R)
-    (first after : RunSource R) (old new : SessionState) (w : Contents)
-    (r : Result Unit Stop) → first ≡ sources.Opened name before → after ≡ sources.Opened n later
-    → ReadFails r (failures before) (failures later) → FileGives name (script before) (script later) old new w r
-    → SourceFails script failures r first after
-source_fails script failures name n before later first after old new w r f b h g =
-    subst (λ x. SourceFails script failures r x after) (sym f)
-    (subst (λ x. SourceFails script failures r (sources.Opened name before) x) (sym b) (opened_fails script failures name n before later old new w r h g))
+  pub source_fails : (name n : List ℕ) (before later : R) (first after : RunSource R) (old new : SessionState) (w : Contents)
+      (r : Result Unit Stop) → first ≡ sources.Opened name before → after ≡ sources.Opened n later
+      → ReadFails r (failures before) (failures later) → FileGives name (script before) (script later) old new w r
+      → SourceFails script failures r first after
+  source_fails name n before later first after old new w r f b h g =
+      subst (λ x. SourceFails script failures r x after) (sym f)
+      (subst (λ x. SourceFails script failures r (sources.Opened name before) x) (sym b) (opened_fails name n before later old new w r h g))
 
--- the reader at a place failed
-failed_there : {R : Type 0} (script : R → Option Script) (failures : R → ℕ) (i : ℕ) (xs ys : List (RunSource R))
-    (x v : RunSource R) → drop i xs ≡ drop i ys → drop i xs ≡ x ∷ drop (suc i) xs → HasFailed script failures x v
-    → AnyFailed script failures ys (slice_set xs i v)
-failed_there script failures zero [] ys x v e d h = cc
-failed_there script failures zero (a ∷ xs) [] x v e d h = cc
-failed_there script failures zero (a ∷ xs) (b ∷ ys) x v e d h =
-    let k : x ≡ b = cc in
-    inl (subst (λ (y : RunSource _). HasFailed script failures y v) k h)
-failed_there script failures (suc i) [] ys x v e d h = cc
-failed_there script failures (suc i) (a ∷ xs) [] x v e d h = cc
-failed_there script failures (suc i) (a ∷ xs) (b ∷ ys) x v e d h = inr (failed_there script failures i xs ys x v e d h)
+  -- the reader at a place failed
+  failed_there : (i : ℕ) (xs ys : List (RunSource R))
+      (x v : RunSource R) → drop i xs ≡ drop i ys → drop i xs ≡ x ∷ drop (suc i) xs → HasFailed script failures x v
+      → AnyFailed script failures ys (slice_set xs i v)
+  failed_there zero [] ys x v e d h = cc
+  failed_there zero (a ∷ xs) [] x v e d h = cc
+  failed_there zero (a ∷ xs) (b ∷ ys) x v e d h =
+      let k : x ≡ b = cc in
+      inl (subst (λ (y : RunSource _). HasFailed script failures y v) k h)
+  failed_there (suc i) [] ys x v e d h = cc
+  failed_there (suc i) (a ∷ xs) [] x v e d h = cc
+  failed_there (suc i) (a ∷ xs) (b ∷ ys) x v e d h = inr (failed_there i xs ys x v e d h)
 
-pub item_failed : {R : Type 0} (script : R → Option Script) (failures : R → ℕ) (i : ℕ) (xs ys : List (RunSource R))
-    (x v : RunSource R) → drop i xs ≡ drop i ys → i < length xs → HasFailed script failures (slice_index_or xs i x) v
-    → AnyFailed script failures ys (slice_set xs i v)
-item_failed script failures i xs ys x v e l h = failed_there script failures i xs ys (slice_index_or xs i x) v e (drop-cons xs i x l) h
+  pub item_failed : (i : ℕ) (xs ys : List (RunSource R))
+      (x v : RunSource R) → drop i xs ≡ drop i ys → i < length xs → HasFailed script failures (slice_index_or xs i x) v
+      → AnyFailed script failures ys (slice_set xs i v)
+  item_failed i xs ys x v e l h = failed_there i xs ys (slice_index_or xs i x) v e (drop-cons xs i x l) h
 
 -- each source is so related to itself
 pub pairs_same : {A : Type 0} (P : A → A → Type 0) → ((x : A) → P x x) → (xs : List A) → AllPairs P xs xs
@@ -87,59 +87,60 @@ none_taken_yet script xs = pairs_same (ConsumesOnly script) (same_taken script) 
 pub all_sound : {R : Type 0} (failures : R → ℕ) (xs : List (RunSource R)) → AllPairs (is_sound failures) xs xs
 all_sound failures xs = pairs_same (is_sound failures) (sound_same failures) xs
 
--- the sources' readers after a call that ended the run
-failed_by : {R : Type 0} (script : R → Option Script) (failures : R → ℕ) (i : ℕ) (xs ys : List (RunSource R)) (x v : RunSource R) (e : Stop)
-    → AllPairs (is_sound failures) ys xs → drop i xs ≡ drop i ys → i < length xs
-    → SourceFails {A = Unit} script failures (Err e) (slice_index_or xs i x) v
-    → SourcesFail {A = Unit} script failures (Err e) ys (slice_set xs i v)
-failed_by script failures i xs ys x v (stops.Ended causes.Read) a d l h = item_failed script failures i xs ys x v d l h
-failed_by script failures i xs ys x v e a d l h = pair_item (is_sound failures) i xs ys x v a d l h
+module _ {R : Type 0} (script : R → Option Script) (failures : R → ℕ) where
+  -- the sources' readers after a call that ended the run
+  failed_by : (i : ℕ) (xs ys : List (RunSource R)) (x v : RunSource R) (e : Stop)
+      → AllPairs (is_sound failures) ys xs → drop i xs ≡ drop i ys → i < length xs
+      → SourceFails {A = Unit} script failures (Err e) (slice_index_or xs i x) v
+      → SourcesFail {A = Unit} script failures (Err e) ys (slice_set xs i v)
+  failed_by i xs ys x v (stops.Ended causes.Read) a d l h = item_failed script failures i xs ys x v d l h
+  failed_by i xs ys x v e a d l h = pair_item (is_sound failures) i xs ys x v a d l h
 
-pub sources_fail : {R : Type 0} (script : R → Option Script) (failures : R → ℕ) (i : ℕ) (xs ys : List (RunSource R)) (x v : RunSource R) (e : Stop)
-    (q r : Result Unit Stop) → q ≡ Err e → r ≡ Err e → AllPairs (is_sound failures) ys xs → drop i xs ≡ drop i ys
-    → i < length xs → SourceFails script failures q (slice_index_or xs i x) v → SourcesFail script failures r ys (slice_set xs i v)
-sources_fail script failures i xs ys x v e q r f g a d l h =
-    subst (λ (z : Result Unit Stop). SourcesFail script failures z ys (slice_set xs i v)) (sym g)
-    (failed_by script failures i xs ys x v e a d l (subst (λ (z : Result Unit Stop). SourceFails script failures z (slice_index_or xs i x) v) f h))
+  pub sources_fail : (i : ℕ) (xs ys : List (RunSource R)) (x v : RunSource R) (e : Stop)
+      (q r : Result Unit Stop) → q ≡ Err e → r ≡ Err e → AllPairs (is_sound failures) ys xs → drop i xs ≡ drop i ys
+      → i < length xs → SourceFails script failures q (slice_index_or xs i x) v → SourcesFail script failures r ys (slice_set xs i v)
+  sources_fail i xs ys x v e q r f g a d l h =
+      subst (λ (z : Result Unit Stop). SourcesFail script failures z ys (slice_set xs i v)) (sym g)
+      (failed_by i xs ys x v e a d l (subst (λ (z : Result Unit Stop). SourceFails script failures z (slice_index_or xs i x) v) f h))
 
--- the end of a run asks no reader
-ends_sound : {R : Type 0} (script : R → Option Script) (failures : R → ℕ) (xs ys : List (RunSource R)) (freezes : Bool)
-    (old new : SessionState) (w : Contents) (e : Stop) → EndGives freezes old new w (Err e)
-    → AllPairs (is_sound failures) xs ys → SourcesFail {A = Bool} script failures (Err e) xs ys
-ends_sound script failures xs ys freezes old new w (stops.Ended causes.Read) h a = absurd h
-ends_sound script failures xs ys freezes old new w e h a = a
+  -- the end of a run asks no reader
+  ends_sound : (xs ys : List (RunSource R)) (freezes : Bool)
+      (old new : SessionState) (w : Contents) (e : Stop) → EndGives freezes old new w (Err e)
+      → AllPairs (is_sound failures) xs ys → SourcesFail {A = Bool} script failures (Err e) xs ys
+  ends_sound xs ys freezes old new w (stops.Ended causes.Read) h a = absurd h
+  ends_sound xs ys freezes old new w e h a = a
 
-pub close_sound : {R : Type 0} (script : R → Option Script) (failures : R → ℕ) (xs ys : List (RunSource R)) (freezes : Bool)
-    (old new : SessionState) (w : Three (Option (List ℕ))) (e : Stop) (q : Result Unit Stop) (r : Result Bool Stop)
-    → q ≡ Err e → r ≡ Err e → CloseGives freezes old new w q → AllPairs (is_sound failures) xs ys
-    → SourcesFail script failures r xs ys
-close_sound script failures xs ys freezes old new w e q r f g h a =
-    subst (λ (z : Result Bool Stop). SourcesFail script failures z xs ys) (sym g)
-    (ends_sound script failures xs ys freezes old new w.two e (subst (EndGives freezes old new w.two) f (close_ends freezes old new w q h)) a)
+  pub close_sound : (xs ys : List (RunSource R)) (freezes : Bool)
+      (old new : SessionState) (w : Three (Option (List ℕ))) (e : Stop) (q : Result Unit Stop) (r : Result Bool Stop)
+      → q ≡ Err e → r ≡ Err e → CloseGives freezes old new w q → AllPairs (is_sound failures) xs ys
+      → SourcesFail script failures r xs ys
+  close_sound xs ys freezes old new w e q r f g h a =
+      subst (λ (z : Result Bool Stop). SourcesFail script failures z xs ys) (sym g)
+      (ends_sound xs ys freezes old new w.two e (subst (EndGives freezes old new w.two) f (close_ends freezes old new w q h)) a)
 
-pub same_fails : {R : Type 0} (script : R → Option Script) (failures : R → ℕ) (xs ys : List (RunSource R)) (e : Stop)
-    (q : Result Unit Stop) (r : Result Bool Stop) → q ≡ Err e → r ≡ Err e → SourcesFail script failures q xs ys
-    → SourcesFail script failures r xs ys
-same_fails script failures xs ys e q r f g h =
-    subst (λ (z : Result Bool Stop). SourcesFail script failures z xs ys) (sym g)
-    (as_bool e (subst (λ (z : Result Unit Stop). SourcesFail script failures z xs ys) f h))
-  where
-    as_bool : (e : Stop) → SourcesFail {A = Unit} script failures (Err e) xs ys → SourcesFail {A = Bool} script failures (Err e) xs ys
-    as_bool (stops.Ended causes.Read) h = h
-    as_bool e h = h
+  pub same_fails : (xs ys : List (RunSource R)) (e : Stop)
+      (q : Result Unit Stop) (r : Result Bool Stop) → q ≡ Err e → r ≡ Err e → SourcesFail script failures q xs ys
+      → SourcesFail script failures r xs ys
+  same_fails xs ys e q r f g h =
+      subst (λ (z : Result Bool Stop). SourcesFail script failures z xs ys) (sym g)
+      (as_bool e (subst (λ (z : Result Unit Stop). SourcesFail script failures z xs ys) f h))
+    where
+      as_bool : (e : Stop) → SourcesFail {A = Unit} script failures (Err e) xs ys → SourcesFail {A = Bool} script failures (Err e) xs ys
+      as_bool (stops.Ended causes.Read) h = h
+      as_bool e h = h
 
-ended_fails : {R : Type 0} (script : R → Option Script) (failures : R → ℕ) (status : ℕ) (xs ys : List (RunSource R))
-    (r : Result Bool Stop) → SourcesFail script failures r xs ys → ReadersFailBy script failures (ending_by status r).cause xs ys
-ended_fails script failures status xs ys (Ok wrapped) h = h
-ended_fails script failures status xs ys (Err stops.Finished) h = h
-ended_fails script failures status xs ys (Err (stops.Ended causes.Read)) h = h
-ended_fails script failures status xs ys (Err (stops.Ended cause)) h = h
+  ended_fails : (status : ℕ) (xs ys : List (RunSource R))
+      (r : Result Bool Stop) → SourcesFail script failures r xs ys → ReadersFailBy script failures (ending_by status r).cause xs ys
+  ended_fails status xs ys (Ok wrapped) h = h
+  ended_fails status xs ys (Err stops.Finished) h = h
+  ended_fails status xs ys (Err (stops.Ended causes.Read)) h = h
+  ended_fails status xs ys (Err (stops.Ended cause)) h = h
 
-pub run_fails : {R : Type 0} (script : R → Option Script) (failures : R → ℕ) (status : ℕ) (xs ys : List (RunSource R))
-    (r : Result Bool Stop) (e : Ending) → e ≡ ending_by status r → SourcesFail script failures r xs ys
-    → ReadersFailBy script failures e.cause xs ys
-run_fails script failures status xs ys r e f h =
-    subst (λ (z : Ending). ReadersFailBy script failures z.cause xs ys) (sym f) (ended_fails script failures status xs ys r h)
+  pub run_fails : (status : ℕ) (xs ys : List (RunSource R))
+      (r : Result Bool Stop) (e : Ending) → e ≡ ending_by status r → SourcesFail script failures r xs ys
+      → ReadersFailBy script failures e.cause xs ys
+  run_fails status xs ys r e f h =
+      subst (λ (z : Ending). ReadersFailBy script failures z.cause xs ys) (sym f) (ended_fails status xs ys r h)
 
 -- whether a source wasn't opened, where so many were read
 pub or_turn : (a r m : Bool) → (r || (a || m)) ≡ ((a || r) || m)

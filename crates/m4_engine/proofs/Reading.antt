@@ -29,8 +29,7 @@ pub record Between (ss : List Source) (i : ℕ) (s0 s : SessionState) (w : Conte
   pub messages : w.messages_new ≡ with_bytes w.messages_old m
   pub limits : s.limits ≡ s0.limits
   pub rest : after_sources s0.limits ss (progress_of s0) ≡ after_sources s0.limits (drop i ss) (after o m (progress_of s))
-  pub steps : (a b : List ℕ) (before later : RunSoFar)
-      → InSources s0.limits (drop i ss) (after (a ++ o) (b ++ m) (progress_of s)) before later
+  pub steps : (a b : List ℕ) (before later : RunSoFar) → InSources s0.limits (drop i ss) (after (a ++ o) (b ++ m) (progress_of s)) before later
       → InSources s0.limits ss (after a b (progress_of s0)) before later
 
 pub none_read : (ss : List Source) (s : SessionState) (out reported : Option (List ℕ)) → Between ss 0 s s (writers out out reported reported)
@@ -54,8 +53,7 @@ source_after s0 s o m t ts l =
     ap (after_sources s0.limits ts)
     (sources_after o m s0.limits (t ∷ []) (progress_of s) ∙ ap (λ (x : Limits). after o m (after_source x t (progress_of s))) (sym l))
 
-pub one_read : (ss : List Source) (i j : ℕ) (s0 s s' : SessionState) (t : Source)
-    (out0 out out' reported0 reported reported' : Option (List ℕ))
+pub one_read : (ss : List Source) (i j : ℕ) (s0 s s' : SessionState) (t : Source) (out0 out out' reported0 reported reported' : Option (List ℕ))
     → Between ss i s0 s (writers out0 out reported0 reported) → drop i ss ≡ t ∷ drop j ss
     → Completed s s' (after_source s.limits t (progress_of s)) (writers out out' reported reported')
     → Between ss j s0 s' (writers out0 out' reported0 reported')
@@ -161,91 +159,90 @@ rest_kept xs ys i v e =
     let l : i < i + 1 = omega arith in
     drop-set-lt (i + 1) xs i v l ∙ sym (drop-drop 1 i xs) ∙ ap (drop 1) e ∙ drop-drop 1 i ys
 
--- the first sources may have been these
-abbrev may_first : {R : Type 0} → (R → Option Script) → ℕ → List (RunSource R) → List (RunSource R) → List Source → Type 0
-may_first script zero before after ss = Unit {0}
-may_first script (suc i) [] [] [] = Unit {0}
-may_first script (suc i) (x ∷ xs) (y ∷ ys) (s ∷ ss) = ExtendsSource script x y s × may_first script i xs ys ss
-may_first script (suc i) before after ss = ⊥
+module _ {R : Type 0} (script : R → Option Script) where
+  -- the first sources may have been these
+  abbrev may_first : ℕ → List (RunSource R) → List (RunSource R) → List Source → Type 0
+  may_first zero before after ss = Unit {0}
+  may_first (suc i) [] [] [] = Unit {0}
+  may_first (suc i) (x ∷ xs) (y ∷ ys) (s ∷ ss) = ExtendsSource script x y s × may_first i xs ys ss
+  may_first (suc i) before after ss = ⊥
 
-first_of_all : {R : Type 0} (script : R → Option Script) (xs ys : List (RunSource R)) (ss : List Source) (i : ℕ)
-    → ExtendSources script xs ys ss → may_first script i xs ys ss
-first_of_all script xs ys ss zero h = tt
-first_of_all script [] [] [] (suc i) h = tt
-first_of_all script [] [] (s ∷ ss) (suc i) h = absurd h
-first_of_all script [] (y ∷ ys) [] (suc i) h = absurd h
-first_of_all script [] (y ∷ ys) (s ∷ ss) (suc i) h = absurd h
-first_of_all script (x ∷ xs) [] ss (suc i) h = absurd h
-first_of_all script (x ∷ xs) (y ∷ ys) [] (suc i) h = absurd h
-first_of_all script (x ∷ xs) (y ∷ ys) (s ∷ ss) (suc i) h = (h.0, first_of_all script xs ys ss i h.1)
+  first_of_all : (xs ys : List (RunSource R)) (ss : List Source) (i : ℕ)
+      → ExtendSources script xs ys ss → may_first i xs ys ss
+  first_of_all xs ys ss zero h = tt
+  first_of_all [] [] [] (suc i) h = tt
+  first_of_all [] [] (s ∷ ss) (suc i) h = absurd h
+  first_of_all [] (y ∷ ys) [] (suc i) h = absurd h
+  first_of_all [] (y ∷ ys) (s ∷ ss) (suc i) h = absurd h
+  first_of_all (x ∷ xs) [] ss (suc i) h = absurd h
+  first_of_all (x ∷ xs) (y ∷ ys) [] (suc i) h = absurd h
+  first_of_all (x ∷ xs) (y ∷ ys) (s ∷ ss) (suc i) h = (h.0, first_of_all xs ys ss i h.1)
 
-none_may : {R : Type 0} (script : R → Option Script) (xs ys : List (RunSource R)) (ss : List Source) (i : ℕ)
-    → ExtendSources script xs ys ss → length xs ≤ i → drop i ss ≡ []
-none_may script [] [] [] zero h l = refl
-none_may script [] [] [] (suc i) h l = refl
-none_may script [] [] (s ∷ ss) i h l = absurd h
-none_may script [] (y ∷ ys) [] i h l = absurd h
-none_may script [] (y ∷ ys) (s ∷ ss) i h l = absurd h
-none_may script (x ∷ xs) [] ss i h l = absurd h
-none_may script (x ∷ xs) (y ∷ ys) [] i h l = absurd h
-none_may script (x ∷ xs) (y ∷ ys) (s ∷ ss) zero h l = absurd (omega arith)
-none_may script (x ∷ xs) (y ∷ ys) (s ∷ ss) (suc i) h l = none_may script xs ys ss i h.1 (omega arith)
+  none_may : (xs ys : List (RunSource R)) (ss : List Source) (i : ℕ)
+      → ExtendSources script xs ys ss → length xs ≤ i → drop i ss ≡ []
+  none_may [] [] [] zero h l = refl
+  none_may [] [] [] (suc i) h l = refl
+  none_may [] [] (s ∷ ss) i h l = absurd h
+  none_may [] (y ∷ ys) [] i h l = absurd h
+  none_may [] (y ∷ ys) (s ∷ ss) i h l = absurd h
+  none_may (x ∷ xs) [] ss i h l = absurd h
+  none_may (x ∷ xs) (y ∷ ys) [] i h l = absurd h
+  none_may (x ∷ xs) (y ∷ ys) (s ∷ ss) zero h l = absurd (omega arith)
+  none_may (x ∷ xs) (y ∷ ys) (s ∷ ss) (suc i) h l = none_may xs ys ss i h.1 (omega arith)
 
--- the sources before a place, and the one there
-record ItemMay {R : Type 0} (script : R → Option Script) (i : ℕ) (xs ys : List (RunSource R)) (x v : RunSource R) (ss : List Source) : Type 0 where
-  first : may_first script i ys xs ss
-  source : Source
-  may : ExtendsSource script x v source
-  there : drop i ss ≡ source ∷ drop (suc i) ss
+  -- the sources before a place, and the one there
+  record ItemMay (i : ℕ) (xs ys : List (RunSource R)) (x v : RunSource R) (ss : List Source) : Type 0 where
+    first : may_first i ys xs ss
+    source : Source
+    may : ExtendsSource script x v source
+    there : drop i ss ≡ source ∷ drop (suc i) ss
 
-item_may : {R : Type 0} (script : R → Option Script) (i : ℕ) (xs ys : List (RunSource R)) (x v : RunSource R)
-    (ss : List Source) → drop i xs ≡ drop i ys → drop i xs ≡ x ∷ drop (suc i) xs
-    → may_first script (suc i) ys (slice_set xs i v) ss → ItemMay script i xs ys x v ss
-item_may script zero [] ys x v ss e d h = cc
-item_may script zero (a ∷ xs) [] x v ss e d h = cc
-item_may script zero (a ∷ xs) (b ∷ ys) x v [] e d h = absurd h
-item_may script zero (a ∷ xs) (b ∷ ys) x v (s ∷ ss) e d h =
-    let k : b ≡ x = cc in
-    record { first = tt; source = s; may = subst (λ (y : RunSource _). ExtendsSource script y v s) k h.0; there = refl }
-item_may script (suc i) [] ys x v ss e d h = cc
-item_may script (suc i) (a ∷ xs) [] x v ss e d h = absurd h
-item_may script (suc i) (a ∷ xs) (b ∷ ys) x v [] e d h = absurd h
-item_may script (suc i) (a ∷ xs) (b ∷ ys) x v (s ∷ ss) e d h =
-    let k = item_may script i xs ys x v ss e d h.1 in
-    record { first = (h.0, k.first); source = k.source; may = k.may; there = k.there }
+  item_may : (i : ℕ) (xs ys : List (RunSource R)) (x v : RunSource R)
+      (ss : List Source) → drop i xs ≡ drop i ys → drop i xs ≡ x ∷ drop (suc i) xs
+      → may_first (suc i) ys (slice_set xs i v) ss → ItemMay i xs ys x v ss
+  item_may zero [] ys x v ss e d h = cc
+  item_may zero (a ∷ xs) [] x v ss e d h = cc
+  item_may zero (a ∷ xs) (b ∷ ys) x v [] e d h = absurd h
+  item_may zero (a ∷ xs) (b ∷ ys) x v (s ∷ ss) e d h =
+      let k : b ≡ x = cc in
+      record { first = tt; source = s; may = subst (λ (y : RunSource _). ExtendsSource script y v s) k h.0; there = refl }
+  item_may (suc i) [] ys x v ss e d h = cc
+  item_may (suc i) (a ∷ xs) [] x v ss e d h = absurd h
+  item_may (suc i) (a ∷ xs) (b ∷ ys) x v [] e d h = absurd h
+  item_may (suc i) (a ∷ xs) (b ∷ ys) x v (s ∷ ss) e d h =
+      let k = item_may i xs ys x v ss e d h.1 in
+      record { first = (h.0, k.first); source = k.source; may = k.may; there = k.there }
 
--- the description of the first sources
-abbrev pub FirstFor : {R : Type 0} → (R → Option Script) → ℕ → List (RunSource R) → List (RunSource R) → List Source → Type 0
-FirstFor script i before after ss = (map (source_of script) before ≡ map Some ss) ⊎ may_first script i before after ss
+  -- the description of the first sources
+  abbrev pub FirstFor : ℕ → List (RunSource R) → List (RunSource R) → List Source → Type 0
+  FirstFor i before after ss = (map (source_of script) before ≡ map Some ss) ⊎ may_first i before after ss
 
-pub first_for : {R : Type 0} (script : R → Option Script) (i : ℕ) (xs ys : List (RunSource R)) (ss : List Source)
-    → DescribeSources script xs ys ss → FirstFor script i xs ys ss
-first_for script i xs ys ss (inl t) = inl t
-first_for script i xs ys ss (inr m) = inr (first_of_all script xs ys ss i m)
+  pub first_for : (i : ℕ) (xs ys : List (RunSource R)) (ss : List Source) → DescribeSources script xs ys ss → FirstFor i xs ys ss
+  first_for i xs ys ss (inl t) = inl t
+  first_for i xs ys ss (inr m) = inr (first_of_all xs ys ss i m)
 
-pub none_left : {R : Type 0} (script : R → Option Script) (xs ys : List (RunSource R)) (ss : List Source) (i : ℕ)
-    → DescribeSources script xs ys ss → length xs ≤ i → drop i ss ≡ []
-none_left script xs ys ss i (inl t) l = none_reported (source_of script) xs ss i t l
-none_left script xs ys ss i (inr m) l = none_may script xs ys ss i m l
+  pub none_left : (xs ys : List (RunSource R)) (ss : List Source) (i : ℕ) → DescribeSources script xs ys ss → length xs ≤ i → drop i ss ≡ []
+  none_left xs ys ss i (inl t) l = none_reported (source_of script) xs ss i t l
+  none_left xs ys ss i (inr m) l = none_may xs ys ss i m l
 
--- the source at a place, and what the definitions have there
-pub record Item {R : Type 0} (script : R → Option Script) (i : ℕ) (xs ys : List (RunSource R)) (x v : RunSource R) (ss : List Source) : Type 0 where
-  pub first : FirstFor script i ys xs ss
-  pub source : Source
-  pub describes : DescribesSource script x v source
-  pub there : drop i ss ≡ source ∷ drop (i + 1) ss
+  -- the source at a place, and what the definitions have there
+  pub record Item (i : ℕ) (xs ys : List (RunSource R)) (x v : RunSource R) (ss : List Source) : Type 0 where
+    pub first : FirstFor i ys xs ss
+    pub source : Source
+    pub describes : DescribesSource script x v source
+    pub there : drop i ss ≡ source ∷ drop (i + 1) ss
 
-pub item : {R : Type 0} (script : R → Option Script) (i : ℕ) (xs ys : List (RunSource R)) (x v : RunSource R)
-    (ss : List Source) → drop i xs ≡ drop i ys → i < length xs → FirstFor script (i + 1) ys (slice_set xs i v) ss
-    → Item script i xs ys (slice_index_or xs i x) v ss
-item script i xs ys x v ss d l (inl t) =
-    let k = reported_at (source_of script) ys ss i (slice_index_or xs i x) (drop (suc i) xs) t (sym d ∙ drop-cons xs i x l) in
-    let n : suc i ≡ i + 1 = omega arith in
-    record { first = inl t; source = k.0; describes = inl k.1; there = k.2 ∙ ap (λ (j : ℕ). k.0 ∷ drop j ss) n }
-item script i xs ys x v ss d l (inr m) =
-    let n : i + 1 ≡ suc i = omega arith in
-    let k = item_may script i xs ys (slice_index_or xs i x) v ss d (drop-cons xs i x l) (subst (λ (j : ℕ). may_first script j ys (slice_set xs i v) ss) n m) in
-    record { first = inr k.first; source = k.source; describes = inr k.may; there = k.there ∙ ap (λ (j : ℕ). k.source ∷ drop j ss) (sym n) }
+  pub item : (i : ℕ) (xs ys : List (RunSource R)) (x v : RunSource R)
+      (ss : List Source) → drop i xs ≡ drop i ys → i < length xs → FirstFor (i + 1) ys (slice_set xs i v) ss
+      → Item i xs ys (slice_index_or xs i x) v ss
+  item i xs ys x v ss d l (inl t) =
+      let k = reported_at (source_of script) ys ss i (slice_index_or xs i x) (drop (suc i) xs) t (sym d ∙ drop-cons xs i x l) in
+      let n : suc i ≡ i + 1 = omega arith in
+      record { first = inl t; source = k.0; describes = inl k.1; there = k.2 ∙ ap (λ (j : ℕ). k.0 ∷ drop j ss) n }
+  item i xs ys x v ss d l (inr m) =
+      let n : i + 1 ≡ suc i = omega arith in
+      let k = item_may i xs ys (slice_index_or xs i x) v ss d (drop-cons xs i x l) (subst (λ (j : ℕ). may_first j ys (slice_set xs i v) ss) n m) in
+      record { first = inr k.first; source = k.source; describes = inr k.may; there = k.there ∙ ap (λ (j : ℕ). k.source ∷ drop j ss) (sym n) }
 
 pub stopped_so : (ss : List Source) (i j : ℕ) (s0 s s' : SessionState) (t : Source)
     (out0 out out' reported0 reported reported' : Option (List ℕ)) (e : Stop) (q r : Result Unit Stop) → q ≡ Err e

@@ -112,46 +112,47 @@ record Last {R : Type 0} (script : R → Option Script) (old new : List (RunSour
 next_last : (m n : ℕ) → m ≡ n + 1 → suc m ≡ suc n + 1
 next_last m n e = omega (arith, e)
 
-one_last : {R : Type 0} (script : R → Option Script) (x y : RunSource R) (limits : Limits) (p : Progress) (s : Source)
-    → IsRead script x y s → p.over ≡ None → (after_source limits s p).over ≡ None
-    → Last script (x ∷ []) (y ∷ []) limits p (after_source limits s p)
-one_last script (sources.Opened name r) (sources.Opened n b) limits p (Opened m bytes) i e g =
-    record {
-      before = [];
-      name = m;
-      taken = bytes;
-      place = ((i.0, i.1, i.2), refl);
-      settled = opened_before limits p m bytes p.over e g;
-      at_end = i.3;
-      last = refl;
-    }
-one_last script (sources.Unopened name) (sources.Unopened n) limits p (Unopened m) i e g =
-    record { before = []; name = m; taken = []; place = ((i.0, i.1, refl), refl); settled = unopened_before limits p m p.over e; at_end = tt; last = refl }
-one_last script (sources.Opened name r) (sources.Opened n b) limits p (Unopened m) i e g = absurd i
-one_last script (sources.Opened name r) (sources.Unopened n) limits p s i e g = absurd i
-one_last script (sources.Unopened name) (sources.Opened n b) limits p s i e g = absurd i
-one_last script (sources.Unopened name) (sources.Unopened n) limits p (Opened m bytes) i e g = absurd i
+module _ {R : Type 0} (script : R → Option Script) where
+  one_last : (x y : RunSource R) (limits : Limits) (p : Progress) (s : Source)
+      → IsRead script x y s → p.over ≡ None → (after_source limits s p).over ≡ None
+      → Last script (x ∷ []) (y ∷ []) limits p (after_source limits s p)
+  one_last (sources.Opened name r) (sources.Opened n b) limits p (Opened m bytes) i e g =
+      record {
+        before = [];
+        name = m;
+        taken = bytes;
+        place = ((i.0, i.1, i.2), refl);
+        settled = opened_before limits p m bytes p.over e g;
+        at_end = i.3;
+        last = refl;
+      }
+  one_last (sources.Unopened name) (sources.Unopened n) limits p (Unopened m) i e g =
+      record { before = []; name = m; taken = []; place = ((i.0, i.1, refl), refl); settled = unopened_before limits p m p.over e; at_end = tt; last = refl }
+  one_last (sources.Opened name r) (sources.Opened n b) limits p (Unopened m) i e g = absurd i
+  one_last (sources.Opened name r) (sources.Unopened n) limits p s i e g = absurd i
+  one_last (sources.Unopened name) (sources.Opened n b) limits p s i e g = absurd i
+  one_last (sources.Unopened name) (sources.Unopened n) limits p (Opened m bytes) i e g = absurd i
 
-last_is : {R : Type 0} (script : R → Option Script) (old new : List (RunSource R)) (ss : List Source) (limits : Limits)
-    (p : Progress) → old ≢ [] → AreRead script old new ss → (after_sources limits ss p).over ≡ None
-    → Last script old new limits p (after_sources limits ss p)
-last_is script [] new ss limits p n h g = absurd (n refl)
-last_is script (x ∷ []) (y ∷ []) (s ∷ []) limits p n h g = one_last script x y limits p s h.0 (open_before limits s p p.over refl g) g
-last_is script (x ∷ x2 ∷ xs) (y ∷ ys) (s ∷ ss) limits p n h g =
-    let k = last_is script (x2 ∷ xs) ys ss limits (after_source limits s p) (λ e. cc) h.1 g in
-    record {
-      before = s ∷ k.before;
-      name = k.name;
-      taken = k.taken;
-      place = (h.0, k.place);
-      settled = k.settled;
-      at_end = k.at_end;
-      last = next_last _ _ k.last;
-    }
-last_is script (x ∷ xs) [] ss limits p n h g = absurd h
-last_is script (x ∷ []) (y ∷ y2 ∷ ys) (s ∷ ss) limits p n h g = absurd h.1
-last_is script (x ∷ xs) (y ∷ ys) [] limits p n h g = absurd h
-last_is script (x ∷ []) (y ∷ []) (s ∷ s2 ∷ ss) limits p n h g = absurd h.1
+  last_is : (old new : List (RunSource R)) (ss : List Source) (limits : Limits)
+      (p : Progress) → old ≢ [] → AreRead script old new ss → (after_sources limits ss p).over ≡ None
+      → Last script old new limits p (after_sources limits ss p)
+  last_is [] new ss limits p n h g = absurd (n refl)
+  last_is (x ∷ []) (y ∷ []) (s ∷ []) limits p n h g = one_last x y limits p s h.0 (open_before limits s p p.over refl g) g
+  last_is (x ∷ x2 ∷ xs) (y ∷ ys) (s ∷ ss) limits p n h g =
+      let k = last_is (x2 ∷ xs) ys ss limits (after_source limits s p) (λ e. cc) h.1 g in
+      record {
+        before = s ∷ k.before;
+        name = k.name;
+        taken = k.taken;
+        place = (h.0, k.place);
+        settled = k.settled;
+        at_end = k.at_end;
+        last = next_last _ _ k.last;
+      }
+  last_is (x ∷ xs) [] ss limits p n h g = absurd h
+  last_is (x ∷ []) (y ∷ y2 ∷ ys) (s ∷ ss) limits p n h g = absurd h.1
+  last_is (x ∷ xs) (y ∷ ys) [] limits p n h g = absurd h
+  last_is (x ∷ []) (y ∷ []) (s ∷ s2 ∷ ss) limits p n h g = absurd h.1
 
 -- ---- the end of a run
 
@@ -245,35 +246,37 @@ module _ {R : Type 0} (script : R → Option Script) (old new : List (RunSource 
       (end_by e (subst (EndGives freezes s1 s2 (writers out out' reported reported')) f
       (subst (λ v. EndGives freezes s1 s2 v q) i (close_ends freezes s1 s2 w q g))))
 
--- the run ended within a source
-early_by : {R : Type 0} (script : R → Option Script) (old new : List (RunSource R)) (s s1 : SessionState) (w : Contents)
-    (e : Stop) → IsLeft {A = Unit} s1 (Err e) → SourcesGive script old new s s1 w (Err e) → RunReached script old new s w (Err e)
-early_by script old new s s1 w stops.Finished l h = h
-early_by script old new s s1 w (stops.Ended causes.Done) l h = absurd l
-early_by script old new s s1 w (stops.Ended cause) l h = h
+module _ {R : Type 0} (script : R → Option Script) where
+  -- the run ended within a source
+  early_by : (old new : List (RunSource R)) (s s1 : SessionState) (w : Contents)
+      (e : Stop) → IsLeft {A = Unit} s1 (Err e) → SourcesGive script old new s s1 w (Err e) → RunReached script old new s w (Err e)
+  early_by old new s s1 w stops.Finished l h = h
+  early_by old new s s1 w (stops.Ended causes.Done) l h = absurd l
+  early_by old new s s1 w (stops.Ended cause) l h = h
 
-pub early_reached : {R : Type 0} (script : R → Option Script) (old new : List (RunSource R)) (s s1 : SessionState)
-    (w : Contents) (e : Stop) (q : Result Unit Stop) (r : Result Bool Stop) → q ≡ Err e → r ≡ Err e → IsLeft s1 q
-    → SourcesGive script old new s s1 w q → RunReached script old new s w r
-early_reached script old new s s1 w e q r f k l h =
-    subst (RunReached script old new s w) (sym k) (early_by script old new s s1 w e (subst (IsLeft s1) f l) (subst (SourcesGive script old new s s1 w) f h))
+  pub early_reached : (old new : List (RunSource R)) (s s1 : SessionState)
+      (w : Contents) (e : Stop) (q : Result Unit Stop) (r : Result Bool Stop) → q ≡ Err e → r ≡ Err e → IsLeft s1 q
+      → SourcesGive script old new s s1 w q → RunReached script old new s w r
+  early_reached old new s s1 w e q r f k l h =
+      subst (RunReached script old new s w) (sym k) (early_by old new s s1 w e (subst (IsLeft s1) f l) (subst (SourcesGive script old new s s1 w) f h))
 
 -- ---- the whole run
 
--- it did not begin: nothing was read
-none_by : {R : Type 0} (script : R → Option Script) (xs : List (RunSource R)) (o : Options) (start : Start)
-    (w : Contents) (e : Stop) (status : ℕ) → IsBegun o (Err e) → OnePassBy script xs xs o start (ending_by status (Err e)).cause w
-none_by script xs o start w stops.Finished status h = absurd h
-none_by script xs o start w (stops.Ended (causes.Frozen f)) status h = refl
-none_by script xs o start w (stops.Ended causes.Write) status h = inl refl
-none_by script xs o start w (stops.Ended causes.OutOfMemory) status h = inl refl
-none_by script xs o start w (stops.Ended cause) status h = absurd h
+module _ {R : Type 0} (script : R → Option Script) where
+  -- it did not begin: nothing was read
+  none_by : (xs : List (RunSource R)) (o : Options) (start : Start)
+      (w : Contents) (e : Stop) (status : ℕ) → IsBegun o (Err e) → OnePassBy script xs xs o start (ending_by status (Err e)).cause w
+  none_by xs o start w stops.Finished status h = absurd h
+  none_by xs o start w (stops.Ended (causes.Frozen f)) status h = refl
+  none_by xs o start w (stops.Ended causes.Write) status h = inl refl
+  none_by xs o start w (stops.Ended causes.OutOfMemory) status h = inl refl
+  none_by xs o start w (stops.Ended cause) status h = absurd h
 
-pub never_passed : {R : Type 0} (script : R → Option Script) (xs : List (RunSource R)) (o : Options) (start : Start)
-    (w : Contents) (st : Result SessionState Stop) (e : Stop) (status : ℕ) (d : Ending) → st ≡ Err e
-    → d ≡ ending_by status (Err e) → IsBegun o st → OnePass script xs xs o start d.cause w
-never_passed script xs o start w st e status d f g b = λ n.
-    subst (λ (x : Ending). OnePassBy script xs xs o start x.cause w) (sym g) (none_by script xs o start w e status (subst (IsBegun o) f b))
+  pub never_passed : (xs : List (RunSource R)) (o : Options) (start : Start)
+      (w : Contents) (st : Result SessionState Stop) (e : Stop) (status : ℕ) (d : Ending) → st ≡ Err e
+      → d ≡ ending_by status (Err e) → IsBegun o st → OnePass script xs xs o start d.cause w
+  never_passed xs o start w st e status d f g b = λ n.
+      subst (λ (x : Ending). OnePassBy script xs xs o start x.cause w) (sym g) (none_by xs o start w e status (subst (IsBegun o) f b))
 
 -- it began: its start's issued text was written before
 module _ {R : Type 0} (script : R → Option Script) (old new : List (RunSource R)) (o : Options) (k : State)

@@ -70,8 +70,7 @@ so_of name before after s Q P t h =
     subst P (sym k.2) (h.so k.0 k.1)
 
 -- an open session reads a file
-pub source_is : (old : SessionState) (name x : List ℕ) → IsOpen old
-    → (after_source old.limits (Opened name x) (progress_of old)).so_far
+pub source_is : (old : SessionState) (name x : List ℕ) → IsOpen old → (after_source old.limits (Opened name x) (progress_of old)).so_far
     ≡ (read_file old.limits (progress_of old).so_far name x).so_far
 source_is old name x l = ap (λ (o : Option Cause). (after_source old.limits (Opened name x) (record (progress_of old) { over = how_over o })).so_far) l.over
 
@@ -219,20 +218,20 @@ unread_goes old new w p r i v o m =
     subst (λ (x : Result Unit Stop). GoesTo p old new w x) (sym i)
     (record { over = v; output = silent_begun w.out_old w.out_new _ o; messages = silent_begun w.messages_old w.messages_new _ m })
 
-pub unopened_is : {R : Type 0} (script : R → Option Script) (name : List ℕ) (after : RunSource R) (s : Source)
-    → DescribesSource script (sources.Unopened name) after s → Unopened name ≡ s
-unopened_is script name after s (inl t) = let e : Unopened name ≡ s = cc in e
-unopened_is script name after s (inr m) = sym m
+module _ {R : Type 0} (script : R → Option Script) where
+  pub unopened_is : (name : List ℕ) (after : RunSource R) (s : Source) → DescribesSource script (sources.Unopened name) after s → Unopened name ≡ s
+  unopened_is name after s (inl t) = let e : Unopened name ≡ s = cc in e
+  unopened_is name after s (inr m) = sym m
 
-pub unopened_described : {R : Type 0} (script : R → Option Script) (old new : SessionState) (name : List ℕ)
-    (first after : RunSource R) (w : Contents) (r : Result Unit Stop) (s : Source) → first ≡ sources.Unopened name
-    → IsOpen old → DescribesSource script first after s → w.out_new ≡ w.out_old
-    → MissingGives name old new w.messages_old w.messages_new r
-    → GoesTo (after_source old.limits s (progress_of old)) old new w r
-unopened_described script old new name first after w r s f l t o h =
-    let k : DescribesSource script (sources.Unopened name) after s = subst (λ x. DescribesSource script x after s) f t in
-    subst (λ (s : Source). GoesTo (after_source old.limits s (progress_of old)) old new w r)
-    (unopened_is script name after s k) (missing_goes old new name w r l o h)
+  pub unopened_described : (old new : SessionState) (name : List ℕ)
+      (first after : RunSource R) (w : Contents) (r : Result Unit Stop) (s : Source) → first ≡ sources.Unopened name
+      → IsOpen old → DescribesSource script first after s → w.out_new ≡ w.out_old
+      → MissingGives name old new w.messages_old w.messages_new r
+      → GoesTo (after_source old.limits s (progress_of old)) old new w r
+  unopened_described old new name first after w r s f l t o h =
+      let k : DescribesSource script (sources.Unopened name) after s = subst (λ x. DescribesSource script x after s) f t in
+      subst (λ (s : Source). GoesTo (after_source old.limits s (progress_of old)) old new w r)
+      (unopened_is name after s k) (missing_goes old new name w r l o h)
 
 -- nothing was taken
 pub none_taken : (b : Option Script) → b ≡ after_bytes [] b

@@ -68,8 +68,7 @@ result_by_after None freezes saved x r any_missing =
 result_by_after (Some h) freezes saved x r any_missing = refl
 
 -- a run from a start is the run from its state, after what is issued
-pub run_after : (o : Options) (s : State) (x : List ℕ) (ss : List Source)
-    → run_from o (From s x) ss ≡ issuing x
+pub run_after : (o : Options) (s : State) (x : List ℕ) (ss : List Source) → run_from o (From s x) ss ≡ issuing x
     (result_after o.freeze (limits_of o) ss (after_sources (limits_of o) ss (progress_of (session_from o s))))
 run_after o s x ss =
     let limits : Limits = limits_of o in
@@ -330,39 +329,41 @@ never_status o st e n d unopened i m j h =
     let k = never_is o st e n d i m j h in
     subst (StatusIs unopened) (sym k.2) (false, refl, λ x. absurd (k.3 x))
 
--- no source was read
-sound_by : {R : Type 0} (script : R → Option Script) (failures : R → ℕ) (xs ys : List (RunSource R)) (cause : Cause)
-    → cause ≢ causes.Read → AllPairs (is_sound failures) xs ys → ReadersFailBy script failures cause xs ys
-sound_by script failures xs ys causes.Read n a = absurd (n refl)
-sound_by script failures xs ys cause n a = a
+module _ {R : Type 0} (script : R → Option Script) (failures : R → ℕ) where
+  -- no source was read
+  sound_by : (xs ys : List (RunSource R)) (cause : Cause)
+      → cause ≢ causes.Read → AllPairs (is_sound failures) xs ys → ReadersFailBy script failures cause xs ys
+  sound_by xs ys causes.Read n a = absurd (n refl)
+  sound_by xs ys cause n a = a
 
-pub never_read : {R : Type 0} (script : R → Option Script) (failures : R → ℕ) (xs ys : List (RunSource R)) (o : Options)
-    (st : Result SessionState Stop) (e : Stop) (n : ℕ) (d : Ending) → st ≡ Err e → n ≡ status_after e
-    → d ≡ ending_by n (Err e) → IsBegun o st → AllPairs (is_sound failures) xs ys
-    → ReadersFailBy script failures d.cause xs ys
-never_read script failures xs ys o st e n d i m j h a =
-    let k = never_is o st e n d i m j h in
-    subst (λ (y : Ending). ReadersFailBy script failures y.cause xs ys) (sym k.2) (sound_by script failures xs ys k.0 k.4 a)
+  pub never_read : (xs ys : List (RunSource R)) (o : Options)
+      (st : Result SessionState Stop) (e : Stop) (n : ℕ) (d : Ending) → st ≡ Err e → n ≡ status_after e
+      → d ≡ ending_by n (Err e) → IsBegun o st → AllPairs (is_sound failures) xs ys
+      → ReadersFailBy script failures d.cause xs ys
+  never_read xs ys o st e n d i m j h a =
+      let k = never_is o st e n d i m j h in
+      subst (λ (y : Ending). ReadersFailBy script failures y.cause xs ys) (sym k.2) (sound_by xs ys k.0 k.4 a)
 
 -- the frozen file's reader
 frozen_by : (cause : Cause) (old new : ℕ) → ReloadFails {A = SessionState} (Err (stops.Ended cause)) old new → frozen_fails cause old new
 frozen_by (causes.Frozen fault) old new h = h
 frozen_by cause old new h = h
 
-never_frozen_by : {R : Type 0} (failures : R → ℕ) (xs ys : Option R) (cause : Cause)
-    → BeginFails {A = SessionState} failures (Err (stops.Ended cause)) xs ys → FrozenFailsBy failures cause xs ys
-never_frozen_by failures None None cause h = h
-never_frozen_by failures None (Some y) cause h = absurd h
-never_frozen_by failures (Some x) None cause h = absurd h
-never_frozen_by failures (Some x) (Some y) cause h = frozen_by cause (failures x) (failures y) h
+module _ {R : Type 0} (failures : R → ℕ) where
+  never_frozen_by : (xs ys : Option R) (cause : Cause)
+      → BeginFails {A = SessionState} failures (Err (stops.Ended cause)) xs ys → FrozenFailsBy failures cause xs ys
+  never_frozen_by None None cause h = h
+  never_frozen_by None (Some y) cause h = absurd h
+  never_frozen_by (Some x) None cause h = absurd h
+  never_frozen_by (Some x) (Some y) cause h = frozen_by cause (failures x) (failures y) h
 
-pub never_frozen : {R : Type 0} (failures : R → ℕ) (xs ys : Option R) (o : Options) (st : Result SessionState Stop)
-    (e : Stop) (n : ℕ) (d : Ending) → st ≡ Err e → n ≡ status_after e → d ≡ ending_by n (Err e) → IsBegun o st
-    → BeginFails failures st xs ys → FrozenFailsBy failures d.cause xs ys
-never_frozen failures xs ys o st e n d i m j h a =
-    let k = never_is o st e n d i m j h in
-    subst (λ (y : Ending). FrozenFailsBy failures y.cause xs ys) (sym k.2)
-    (never_frozen_by failures xs ys k.0 (subst (λ (y : Result SessionState Stop). BeginFails failures y xs ys) k.1 a))
+  pub never_frozen : (xs ys : Option R) (o : Options) (st : Result SessionState Stop)
+      (e : Stop) (n : ℕ) (d : Ending) → st ≡ Err e → n ≡ status_after e → d ≡ ending_by n (Err e) → IsBegun o st
+      → BeginFails failures st xs ys → FrozenFailsBy failures d.cause xs ys
+  never_frozen xs ys o st e n d i m j h a =
+      let k = never_is o st e n d i m j h in
+      subst (λ (y : Ending). FrozenFailsBy failures y.cause xs ys) (sym k.2)
+      (never_frozen_by xs ys k.0 (subst (λ (y : Result SessionState Stop). BeginFails failures y xs ys) k.1 a))
 
 -- the writers
 written_by : (cause : Cause) (old new reported frozen : ℕ) (w : Three (Option (List ℕ))) → IsSpared w
@@ -422,20 +423,21 @@ unrefused_so : (cause : Cause) → ((fault : FrozenFault) → cause ≡ causes.F
 unrefused_so (causes.Frozen fault) n = n fault refl
 unrefused_so cause n = tt
 
-begun_frozen_by : {R : Type 0} (failures : R → ℕ) (xs ys : Option R) (s : SessionState) (cause : Cause)
-    → ((fault : FrozenFault) → cause ≡ causes.Frozen fault → ⊥) → BeginFails failures (Ok s) xs ys
-    → FrozenFailsBy failures cause xs ys
-begun_frozen_by failures None None s cause n h = unrefused_so cause n
-begun_frozen_by failures None (Some y) s cause n h = absurd h
-begun_frozen_by failures (Some x) None s cause n h = absurd h
-begun_frozen_by failures (Some x) (Some y) s cause n h = frozen_same cause (failures x) (failures y) n h
+module _ {R : Type 0} (failures : R → ℕ) where
+  begun_frozen_by : (xs ys : Option R) (s : SessionState) (cause : Cause)
+      → ((fault : FrozenFault) → cause ≡ causes.Frozen fault → ⊥) → BeginFails failures (Ok s) xs ys
+      → FrozenFailsBy failures cause xs ys
+  begun_frozen_by None None s cause n h = unrefused_so cause n
+  begun_frozen_by None (Some y) s cause n h = absurd h
+  begun_frozen_by (Some x) None s cause n h = absurd h
+  begun_frozen_by (Some x) (Some y) s cause n h = frozen_same cause (failures x) (failures y) n h
 
-pub begun_frozen : {R : Type 0} (failures : R → ℕ) (xs ys : Option R) (s : SessionState)
-    (st : Result SessionState Stop) (new : SessionState) (n : ℕ) (r : Result Bool Stop) (d : Ending) → st ≡ Ok s
-    → d ≡ ending_by n r → IsLeft new r → BeginFails failures st xs ys → FrozenFailsBy failures d.cause xs ys
-begun_frozen failures xs ys s st new n r d i j l h =
-    begun_frozen_by failures xs ys s d.cause (λ fault c. not_refused new n r d fault j l c)
-    (subst (λ (y : Result SessionState Stop). BeginFails failures y xs ys) i h)
+  pub begun_frozen : (xs ys : Option R) (s : SessionState)
+      (st : Result SessionState Stop) (new : SessionState) (n : ℕ) (r : Result Bool Stop) (d : Ending) → st ≡ Ok s
+      → d ≡ ending_by n r → IsLeft new r → BeginFails failures st xs ys → FrozenFailsBy failures d.cause xs ys
+  begun_frozen xs ys s st new n r d i j l h =
+      begun_frozen_by xs ys s d.cause (λ fault c. not_refused new n r d fault j l c)
+      (subst (λ (y : Result SessionState Stop). BeginFails failures y xs ys) i h)
 
 -- by the answer of the rest of the run
 by_answer : (n : ℕ) (r : Result Bool Stop) (none one : Type 0) → ByAnswer r none one → ByCause (ending_by n r).cause none one
@@ -457,8 +459,7 @@ spared_by n (Ok wrapped) two two' frozen frozen' h = tt
 spared_by n (Err stops.Finished) two two' frozen frozen' h = tt
 spared_by n (Err (stops.Ended cause)) two two' frozen frozen' h = spared_answer cause two two' frozen frozen' h
 
-pub ended_spared : (n : ℕ) (r : Result Bool Stop) (d : Ending) (two two' : Contents)
-    (frozen frozen' : Option (List ℕ)) → d ≡ ending_by n r
+pub ended_spared : (n : ℕ) (r : Result Bool Stop) (d : Ending) (two two' : Contents) (frozen frozen' : Option (List ℕ)) → d ≡ ending_by n r
     → SparesBy r (record { two = two; frozen_old = frozen; frozen_new = frozen' })
     → Spares d.cause (record { two = two'; frozen_old = frozen; frozen_new = frozen' })
 ended_spared n r d two two' frozen frozen' j h =

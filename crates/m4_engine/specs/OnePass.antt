@@ -1,7 +1,7 @@
 -- OnePass: how far a run has read its sources when it ends, and what it had written by then.
 -- Believed. Its law: `SettledBegins` (what a prefix settles is so whatever follows it).
 -- Manual: "Command line files", "How m4 copies input to output".
--- Words: IsRead, IsCurrent, Reaches, AreRead, settled_after, ExactAtFault, AskedAt, left_after, EndsOrIsLast, EndedBy,
+-- Words: settled_after, ExactAtFault, AskedAt, EndsOrIsLast, EndedBy, IsRead, IsCurrent, Reaches, AreRead, left_after,
 -- Reached, IsPast, OnePassBy, OnePass.
 -- A reader is asked only where the bytes in hand leave open how the run continues, and then for one block.
 use Rattle.std.specs.Prelude.{◌≡◌, ◌≢◌, ◌⊎◌, ◌≤◌, ℕ, ◌+◌, List, [], ◌∷◌, ◌++◌, Option, Some, None, length}
@@ -19,36 +19,6 @@ use Rattle.m4_engine.specs.Run.{limits_of}
 use Rattle.m4_engine.specs.RunSources.{script_of}
 use Rattle.m4_engine.specs.Settled.{SettledSoFar, settled_in}
 use Rattle.m4_engine.specs.Writers.{Contents, HasWritten, WroteAtLeast}
-
--- one of a run's sources was read to its end: it is this source of the definitions
-abbrev pub IsRead : {R : Type 0} → (R → Option Script) → RunSource R → RunSource R → Source → Type 0
-IsRead script (sources.Opened name before) (sources.Opened n after) (Opened m bytes) =
-    (n ≡ name) × (m ≡ name) × (script before ≡ after_bytes bytes (script after)) × IsAtEnd (script after)
-IsRead script (sources.Unopened name) (sources.Unopened n) (Unopened m) = (n ≡ name) × (m ≡ name)
-IsRead script before after s = ⊥
-
--- these bytes of one of a run's sources were taken; none if it wasn't opened
-abbrev pub IsCurrent : {R : Type 0} → (R → Option Script) → RunSource R → RunSource R → List ℕ → List ℕ → Type 0
-IsCurrent script (sources.Opened name before) (sources.Opened n after) m taken =
-    (n ≡ name) × (m ≡ name) × (script before ≡ after_bytes taken (script after))
-IsCurrent script (sources.Unopened name) (sources.Unopened n) m taken =
-    (n ≡ name) × (m ≡ name) × (taken ≡ [])
-IsCurrent script before after m taken = ⊥
-
--- the first sources of a run were read to their ends, these bytes were taken of the one after them, and the later
--- ones are as they were
-abbrev pub Reaches : {R : Type 0} → (R → Option Script) → List (RunSource R) → List (RunSource R) → List Source → List ℕ
-    → List ℕ → Type 0
-Reaches script (x ∷ xs) (y ∷ ys) [] name taken = IsCurrent script x y name taken × (ys ≡ xs)
-Reaches script (x ∷ xs) (y ∷ ys) (s ∷ ss) name taken =
-    IsRead script x y s × Reaches script xs ys ss name taken
-Reaches script before after ss name taken = ⊥
-
--- all sources of a run were read to their ends
-abbrev pub AreRead : {R : Type 0} → (R → Option Script) → List (RunSource R) → List (RunSource R) → List Source → Type 0
-AreRead script [] [] [] = Unit {0}
-AreRead script (x ∷ xs) (y ∷ ys) (s ∷ ss) = IsRead script x y s × AreRead script xs ys ss
-AreRead script before after ss = ⊥
 
 -- the part that the first bytes of a file settle, after these sources, in a run that was at p before them; from a
 -- start this is `settled`
@@ -71,12 +41,6 @@ pub record AskedAt (part : List ℕ → SettledSoFar) (cause : Cause) (taken : L
   pub written : WroteAtLeast (part asked).output (part asked).messages w
   pub exact : ExactAtFault cause (part taken) w
 
--- what the reader of the source after these was left with; nothing is known of it if that source wasn't opened
-abbrev pub left_after : {R : Type 0} → (R → Option Script) → List (RunSource R) → List Source → Option Script
-left_after script (y ∷ ys) [] = script_of script y
-left_after script (y ∷ ys) (s ∷ ss) = left_after script ys ss
-left_after script [] ss = None
-
 -- the end of the source after these ends the run by this cause, or no source is left after it
 abbrev pub EndsOrIsLast : {A : Type 0} → List A → Limits → Progress → List Source → List ℕ → List ℕ → Cause → Type 0
 EndsOrIsLast old limits p before name taken cause =
@@ -92,40 +56,74 @@ EndedBy causes.OutOfMemory s all left closed = Unit {0}
 EndedBy causes.Read s all left closed = all × IsAtFault left
 EndedBy cause s all left closed = (s.reason ≡ Ends cause) ⊎ (all × IsAtEnd left × closed)
 
--- how far a run came that was at p before its sources: those before the current one were read to their ends, `taken`
--- is what was taken of the current one, where the run ended, and of the later ones nothing was
-pub record Reached {R : Type 0} (script : R → Option Script) (old new : List (RunSource R)) (limits : Limits)
-    (p : Progress) (cause : Cause) (w : Contents) : Type 0 where
-  pub before : List Source
-  pub name : List ℕ
-  pub taken : List ℕ
-  pub place : Reaches script old new before name taken
-  pub at : AskedAt (settled_after limits p before name) cause taken w
-  pub ended : EndedBy cause (settled_after limits p before name taken) (at.asked ≡ taken) (left_after script new before)
-      (EndsOrIsLast old limits p before name taken cause)
+module _ {R : Type 0} (script : R → Option Script) where
+  -- one of a run's sources was read to its end: it is this source of the definitions
+  abbrev pub IsRead : RunSource R → RunSource R → Source → Type 0
+  IsRead (sources.Opened name before) (sources.Opened n after) (Opened m bytes) =
+      (n ≡ name) × (m ≡ name) × (script before ≡ after_bytes bytes (script after)) × IsAtEnd (script after)
+  IsRead (sources.Unopened name) (sources.Unopened n) (Unopened m) = (n ≡ name) × (m ≡ name)
+  IsRead before after s = ⊥
 
--- a run came past its sources: all were read to their ends, and the last of them was asked once more where all of its
--- bytes leave open how the run continues
-pub record IsPast {R : Type 0} (script : R → Option Script) (old new : List (RunSource R)) (limits : Limits)
-    (p : Progress) (cause : Cause) (w : Contents) : Type 0 where
-  pub sources : List Source
-  pub read : AreRead script old new sources
-  pub reached : Reached script old new limits p cause w
-  pub all : (reached.at).asked ≡ reached.taken
+  -- these bytes of one of a run's sources were taken; none if it wasn't opened
+  abbrev pub IsCurrent : RunSource R → RunSource R → List ℕ → List ℕ → Type 0
+  IsCurrent (sources.Opened name before) (sources.Opened n after) m taken =
+      (n ≡ name) × (m ≡ name) × (script before ≡ after_bytes taken (script after))
+  IsCurrent (sources.Unopened name) (sources.Unopened n) m taken =
+      (n ≡ name) × (m ≡ name) × (taken ≡ [])
+  IsCurrent before after m taken = ⊥
 
--- by the cause: a run that read everything came past its sources; after a frozen file that is refused nothing is read;
--- and a writer or an allocation may have failed before anything was read
-abbrev pub OnePassBy : {R : Type 0} → (R → Option Script) → List (RunSource R) → List (RunSource R) → Options → Start
-    → Cause → Contents → Type 0
-OnePassBy script old new o start (causes.Frozen fault) w = new ≡ old
-OnePassBy script old new o start causes.Write w =
-    (new ≡ old) ⊎ Reached script old new (limits_of o) (begun start) causes.Write w
-OnePassBy script old new o start causes.OutOfMemory w =
-    (new ≡ old) ⊎ Reached script old new (limits_of o) (begun start) causes.OutOfMemory w
-OnePassBy script old new o start causes.Done w = IsPast script old new (limits_of o) (begun start) causes.Done w
-OnePassBy script old new o start cause w = Reached script old new (limits_of o) (begun start) cause w
+  -- the first sources of a run were read to their ends, these bytes were taken of the one after them, and the later
+  -- ones are as they were
+  abbrev pub Reaches : List (RunSource R) → List (RunSource R) → List Source → List ℕ → List ℕ → Type 0
+  Reaches (x ∷ xs) (y ∷ ys) [] name taken = IsCurrent x y name taken × (ys ≡ xs)
+  Reaches (x ∷ xs) (y ∷ ys) (s ∷ ss) name taken =
+      IsRead x y s × Reaches xs ys ss name taken
+  Reaches before after ss name taken = ⊥
 
--- a run passes over its sources once; of a run without sources nothing is said
-abbrev pub OnePass : {R : Type 0} → (R → Option Script) → List (RunSource R) → List (RunSource R) → Options → Start
-    → Cause → Contents → Type 0
-OnePass script old new o start cause w = old ≢ [] → OnePassBy script old new o start cause w
+  -- all sources of a run were read to their ends
+  abbrev pub AreRead : List (RunSource R) → List (RunSource R) → List Source → Type 0
+  AreRead [] [] [] = Unit {0}
+  AreRead (x ∷ xs) (y ∷ ys) (s ∷ ss) = IsRead x y s × AreRead xs ys ss
+  AreRead before after ss = ⊥
+
+  -- what the reader of the source after these was left with; nothing is known of it if that source wasn't opened
+  abbrev pub left_after : List (RunSource R) → List Source → Option Script
+  left_after (y ∷ ys) [] = script_of script y
+  left_after (y ∷ ys) (s ∷ ss) = left_after ys ss
+  left_after [] ss = None
+
+  -- how far a run came that was at p before its sources: those before the current one were read to their ends, `taken`
+  -- is what was taken of the current one, where the run ended, and of the later ones nothing was
+  pub record Reached (old new : List (RunSource R)) (limits : Limits) (p : Progress) (cause : Cause) (w : Contents)
+      : Type 0 where
+    pub before : List Source
+    pub name : List ℕ
+    pub taken : List ℕ
+    pub place : Reaches old new before name taken
+    pub at : AskedAt (settled_after limits p before name) cause taken w
+    pub ended : EndedBy cause (settled_after limits p before name taken) (at.asked ≡ taken) (left_after new before)
+        (EndsOrIsLast old limits p before name taken cause)
+
+  -- a run came past its sources: all were read to their ends, and the last of them was asked once more where all of its
+  -- bytes leave open how the run continues
+  pub record IsPast (old new : List (RunSource R)) (limits : Limits) (p : Progress) (cause : Cause) (w : Contents)
+      : Type 0 where
+    pub sources : List Source
+    pub read : AreRead old new sources
+    pub reached : Reached old new limits p cause w
+    pub all : (reached.at).asked ≡ reached.taken
+
+  -- by the cause: a run that read everything came past its sources; after a frozen file that is refused nothing is
+  -- read; and a writer or an allocation may have failed before anything was read
+  abbrev pub OnePassBy : List (RunSource R) → List (RunSource R) → Options → Start → Cause → Contents → Type 0
+  OnePassBy old new o start (causes.Frozen fault) w = new ≡ old
+  OnePassBy old new o start causes.Write w =
+      (new ≡ old) ⊎ Reached old new (limits_of o) (begun start) causes.Write w
+  OnePassBy old new o start causes.OutOfMemory w =
+      (new ≡ old) ⊎ Reached old new (limits_of o) (begun start) causes.OutOfMemory w
+  OnePassBy old new o start causes.Done w = IsPast old new (limits_of o) (begun start) causes.Done w
+  OnePassBy old new o start cause w = Reached old new (limits_of o) (begun start) cause w
+
+  -- a run passes over its sources once; of a run without sources nothing is said
+  abbrev pub OnePass : List (RunSource R) → List (RunSource R) → Options → Start → Cause → Contents → Type 0
+  OnePass old new o start cause w = old ≢ [] → OnePassBy old new o start cause w

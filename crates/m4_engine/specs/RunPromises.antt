@@ -1,6 +1,6 @@
 -- RunPromises: what a run promises, by its readers, its writers and its ending; a field for each promise.
 -- Believed. Manual: "Invoking m4", "Command line files", "Fast loading of frozen state".
--- Words: RunCall, ForInputs, IsRun.
+-- Words: RunCall, contents_in, ForInputs, IsRun.
 use Rattle.std.specs.Prelude.{◌≡◌, ℕ, Bool, true, false, List, Option}
 use Rattle.m4_state.specs.Device.{Script}
 use Rattle.m4_state.specs.State.{IsSized}
@@ -19,20 +19,25 @@ use Rattle.m4_engine.specs.RunSources.{AllConsumeOnly, DescribeSources, Describe
 use Rattle.m4_engine.specs.RunSources.{ReadersFailBy}
 use Rattle.m4_engine.specs.Start.{start_of}
 use Rattle.m4_engine.specs.WholeRun.{FrozenLast, NothingIsDone, RunGives}
-use Rattle.m4_engine.specs.Writers.{Spares, Three, ThreeFailBy}
+use Rattle.m4_engine.specs.Writers.{Spares, Three, ThreeFailBy, Writing, contents_of, failures_of}
 
--- a run's options, its readers before it and after it, the bytes and the failures of its three writers, and the writer
--- of the frozen text before it and after it
+-- a run's options, its readers before it and after it, its three writers over it, and the writer of the frozen text
+-- itself, before it and after it
 pub record RunCall (R Z : Type 0) : Type 0 where
   pub options : Options
   pub file_old : Option R
   pub file_new : Option R
   pub sources_old : List (RunSource R)
   pub sources_new : List (RunSource R)
-  pub contents : Three (Option (List ℕ))
-  pub failures : Three ℕ
+  pub out : Writing
+  pub messages : Writing
+  pub frozen : Writing
   pub freeze_old : Z
   pub freeze_new : Z
+
+-- the contents of its writers
+abbrev pub contents_in : {R Z : Type 0} → RunCall R Z → Three (Option (List ℕ))
+contents_in c = contents_of c.out c.messages c.frozen
 
 -- P is so of the frozen file and of the sources of a run: of those with the readers' bytes, and of any sources that
 -- start with the bytes that were read
@@ -46,7 +51,7 @@ ForInputs script c P =
 pub record IsRun {R Z : Type 0} (script : R → Option Script) (failures : R → ℕ) (c : RunCall R Z)
     (e : Ending) : Type 0 where
   -- whole run: the bytes written and the ending are those of the definition of a run
-  pub gives : ForInputs script c (λ file ss. RunGives (run c.options file ss) e c.contents)
+  pub gives : ForInputs script c (λ file ss. RunGives (run c.options file ss) e (contents_in c))
   -- whole run: the status of its cause, where 0 becomes 1 if a source wasn't opened; after `m4exit` those sources count
   -- that came before the one that called it
   pub status : (any_missing : Bool) × (e.status ≡ status_of (Ends e.cause) any_missing)
@@ -59,23 +64,24 @@ pub record IsRun {R Z : Type 0} (script : R → Option Script) (failures : R →
   pub read : ReadersFailBy script failures e.cause c.sources_old c.sources_new
       × FrozenFailsBy failures e.cause c.file_old c.file_new
   -- safe and total: a write fault is reported only if a writer failed in this call
-  pub write : ThreeFailBy e.cause c.failures c.contents
+  pub write : ThreeFailBy e.cause (failures_of c.out c.messages c.frozen) (contents_in c)
   -- whole run: each reader delivered a prefix of its known bytes
   pub taken : AllConsumeOnly script c.sources_old c.sources_new
   -- one pass: the sources are read in order, each only as far as the bytes in hand leave the run open; all that these
   -- settle is written before further bytes are asked for
   pub one_pass : (file : Option Script) → DescribesFrozen script c.file_old file
-      → OnePass script c.sources_old c.sources_new c.options (start_of (c.options).prefix file) e.cause (c.contents).two
+      → OnePass script c.sources_old c.sources_new c.options (start_of (c.options).prefix file) e.cause
+      (contents_in c).two
   -- in order: where a writer or an allocation breaks the run off, output and messages were written in the order in
   -- which the run makes them
   pub order : ForInputs script c (λ file ss. InOrderBy e.cause c.options (start_of (c.options).prefix file) ss
-      (c.contents).two)
+      (contents_in c).two)
   -- faults leave beginnings: if a frozen file is refused, no source is read and nothing is written
   pub refused : (fault : FrozenFault) → e.cause ≡ causes.Frozen fault
-      → NothingIsDone c.sources_old c.sources_new c.contents
+      → NothingIsDone c.sources_old c.sources_new (contents_in c)
   -- faults leave beginnings: a write fault comes before the writer of the frozen text is used, or after everything else
   -- was written
   pub last : ForInputs script c (λ file ss. FrozenLast e.cause (run c.options file ss) c.freeze_old c.freeze_new
-      c.contents)
+      (contents_in c))
   -- whole run: only a run that freezes, and reached its end, uses the writer of the frozen text
-  pub spared : ((c.options).freeze ≡ false → c.freeze_new ≡ c.freeze_old) × Spares e.cause c.contents
+  pub spared : ((c.options).freeze ≡ false → c.freeze_new ≡ c.freeze_old) × Spares e.cause (contents_in c)

@@ -21,11 +21,6 @@ opened_source name (Some script) = if script.fails then None else Some (Opened n
 abbrev pub unopened_source : List ℕ → Option Source
 unopened_source name = Some (Unopened name)
 
--- the definitions' source for one of a run's, if its reader's bytes are known and the reader does not fail
-abbrev pub source_of : {R : Type 0} → (R → Option Script) → RunSource R → Option Source
-source_of script (sources.Opened name reader) = opened_source name (script reader)
-source_of script (sources.Unopened name) = unopened_source name
-
 -- bytes that a reader could have delivered in all: they start with those that were read, and equal them if
 -- the reader reached its end
 pub record ExtendsRead (before after : Script) (bytes : List ℕ) : Type 0 where
@@ -39,28 +34,33 @@ abbrev pub ExtendsOpened : List ℕ → Option Script → Option Script → Sour
 ExtendsOpened name (Some before) (Some after) (Opened n bytes) = (n ≡ name) × ExtendsRead before after bytes
 ExtendsOpened name before after s = ⊥
 
-abbrev pub script_of : {R : Type 0} → (R → Option Script) → RunSource R → Option Script
-script_of script (sources.Opened name reader) = script reader
-script_of script (sources.Unopened name) = None
+module _ {R : Type 0} (script : R → Option Script) where
+  -- the definitions' source for one of a run's, if its reader's bytes are known and the reader does not fail
+  abbrev pub source_of : RunSource R → Option Source
+  source_of (sources.Opened name reader) = opened_source name (script reader)
+  source_of (sources.Unopened name) = unopened_source name
 
--- a source that one of a run's may have been, by the bytes that were read from it
-abbrev pub ExtendsSource : {R : Type 0} → (R → Option Script) → RunSource R → RunSource R → Source → Type 0
-ExtendsSource script (sources.Opened name reader) after s =
-    ExtendsOpened name (script reader) (script_of script after) s
-ExtendsSource script (sources.Unopened name) after s = s ≡ Unopened name
+  -- what its reader still delivers; nothing is known of a source that wasn't opened
+  abbrev pub script_of : RunSource R → Option Script
+  script_of (sources.Opened name reader) = script reader
+  script_of (sources.Unopened name) = None
 
-abbrev pub ExtendSources : {R : Type 0} → (R → Option Script) → List (RunSource R) → List (RunSource R) → List Source
-    → Type 0
-ExtendSources script [] [] [] = Unit {0}
-ExtendSources script (x ∷ xs) (y ∷ ys) (s ∷ ss) = ExtendsSource script x y s × ExtendSources script xs ys ss
-ExtendSources script before after ss = ⊥
+  -- a source that one of a run's may have been, by the bytes that were read from it
+  abbrev pub ExtendsSource : RunSource R → RunSource R → Source → Type 0
+  ExtendsSource (sources.Opened name reader) after s =
+      ExtendsOpened name (script reader) (script_of after) s
+  ExtendsSource (sources.Unopened name) after s = s ≡ Unopened name
 
--- definitions' sources for those of a run, by the run's sources before and after it: those with the readers'
--- bytes, or any that start with the bytes that were read
-abbrev pub DescribeSources : {R : Type 0} → (R → Option Script) → List (RunSource R) → List (RunSource R) → List Source
-    → Type 0
-DescribeSources script before after ss =
-    (map (source_of script) before ≡ map Some ss) ⊎ ExtendSources script before after ss
+  abbrev pub ExtendSources : List (RunSource R) → List (RunSource R) → List Source → Type 0
+  ExtendSources [] [] [] = Unit {0}
+  ExtendSources (x ∷ xs) (y ∷ ys) (s ∷ ss) = ExtendsSource x y s × ExtendSources xs ys ss
+  ExtendSources before after ss = ⊥
+
+  -- definitions' sources for those of a run, by the run's sources before and after it: those with the readers'
+  -- bytes, or any that start with the bytes that were read
+  abbrev pub DescribeSources : List (RunSource R) → List (RunSource R) → List Source → Type 0
+  DescribeSources before after ss =
+      (map source_of before ≡ map Some ss) ⊎ ExtendSources before after ss
 
 -- whether a source wasn't opened
 abbrev pub is_unopened : {R : Type 0} → RunSource R → Bool
@@ -100,12 +100,6 @@ AllPairs P [] [] = Unit {0}
 AllPairs P (x ∷ xs) (y ∷ ys) = P x y × AllPairs P xs ys
 AllPairs P before after = ⊥
 
--- the reader of a source failed once more, after all its bytes
-abbrev pub HasFailed : {R : Type 0} → (R → Option Script) → (R → ℕ) → RunSource R → RunSource R → Type 0
-HasFailed script failures (sources.Opened name before) (sources.Opened n after) =
-    (failures after ≡ one_more (failures before)) × IsAtFault (script after)
-HasFailed script failures before after = ⊥
-
 -- the reader of a source did not fail
 abbrev pub is_sound : {R : Type 0} → (R → ℕ) → RunSource R → RunSource R → Type 0
 is_sound failures (sources.Opened name before) (sources.Opened n after) =
@@ -113,31 +107,38 @@ is_sound failures (sources.Opened name before) (sources.Opened n after) =
 is_sound failures (sources.Unopened name) (sources.Unopened n) = Unit {0}
 is_sound failures before after = ⊥
 
--- the reader of one of the sources failed
-abbrev pub AnyFailed : {R : Type 0} → (R → Option Script) → (R → ℕ) → List (RunSource R) → List (RunSource R) → Type 0
-AnyFailed script failures (x ∷ xs) (y ∷ ys) = HasFailed script failures x y ⊎ AnyFailed script failures xs ys
-AnyFailed script failures before after = ⊥
+module _ {R : Type 0} (script : R → Option Script) (failures : R → ℕ) where
+  -- the reader of a source failed once more, after all its bytes
+  abbrev pub HasFailed : RunSource R → RunSource R → Type 0
+  HasFailed (sources.Opened name before) (sources.Opened n after) =
+      (failures after ≡ one_more (failures before)) × IsAtFault (script after)
+  HasFailed before after = ⊥
 
--- a reader failed if the run ends by a read fault; otherwise none did
-abbrev pub ReadersFailBy : {R : Type 0} → (R → Option Script) → (R → ℕ) → Cause → List (RunSource R)
-    → List (RunSource R) → Type 0
-ReadersFailBy script failures causes.Read before after = AnyFailed script failures before after
-ReadersFailBy script failures cause before after = AllPairs (is_sound failures) before after
+  -- the reader of one of the sources failed
+  abbrev pub AnyFailed : List (RunSource R) → List (RunSource R) → Type 0
+  AnyFailed (x ∷ xs) (y ∷ ys) = HasFailed x y ⊎ AnyFailed xs ys
+  AnyFailed before after = ⊥
 
--- bytes were read from the reader of a source, and nothing else changed
-abbrev pub ConsumesOnly : {R : Type 0} → (R → Option Script) → RunSource R → RunSource R → Type 0
-ConsumesOnly script (sources.Opened name before) (sources.Opened n after) =
-    (n ≡ name) × ((x : List ℕ) × (script before ≡ after_bytes x (script after)))
-ConsumesOnly script (sources.Unopened name) (sources.Unopened n) = n ≡ name
-ConsumesOnly script before after = ⊥
+  -- a reader failed if the run ends by a read fault; otherwise none did
+  abbrev pub ReadersFailBy : Cause → List (RunSource R) → List (RunSource R) → Type 0
+  ReadersFailBy causes.Read before after = AnyFailed before after
+  ReadersFailBy cause before after = AllPairs (is_sound failures) before after
 
-abbrev pub AllConsumeOnly : {R : Type 0} → (R → Option Script) → List (RunSource R) → List (RunSource R) → Type 0
-AllConsumeOnly script before after = AllPairs (ConsumesOnly script) before after
+module _ {R : Type 0} (script : R → Option Script) where
+  -- bytes were read from the reader of a source, and nothing else changed
+  abbrev pub ConsumesOnly : RunSource R → RunSource R → Type 0
+  ConsumesOnly (sources.Opened name before) (sources.Opened n after) =
+      (n ≡ name) × ((x : List ℕ) × (script before ≡ after_bytes x (script after)))
+  ConsumesOnly (sources.Unopened name) (sources.Unopened n) = n ≡ name
+  ConsumesOnly before after = ⊥
 
--- the script of a frozen file's reader; none if a run has no frozen file
-abbrev pub DescribesFrozen : {R : Type 0} → (R → Option Script) → Option R → Option Script → Type 0
-DescribesFrozen script None file = file ≡ None
-DescribesFrozen script (Some reader) file = (s : Script) × (script reader ≡ Some s) × (file ≡ Some s)
+  abbrev pub AllConsumeOnly : List (RunSource R) → List (RunSource R) → Type 0
+  AllConsumeOnly before after = AllPairs ConsumesOnly before after
+
+  -- the script of a frozen file's reader; none if a run has no frozen file
+  abbrev pub DescribesFrozen : Option R → Option Script → Type 0
+  DescribesFrozen None file = file ≡ None
+  DescribesFrozen (Some reader) file = (s : Script) × (script reader ≡ Some s) × (file ≡ Some s)
 
 -- a fault of a frozen file: if it is a read fault, the reader failed, once; want of memory has no place
 pub record IsFaultBy (fault : FrozenFault) (old new : ℕ) : Type 0 where

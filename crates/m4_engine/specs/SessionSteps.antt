@@ -68,16 +68,15 @@ IsLeft new (Err (stops.Ended causes.Done)) = ⊥
 IsLeft new (Err (stops.Ended (causes.Frozen fault))) = ⊥
 IsLeft new (Err (stops.Ended cause)) = new.over ≡ Some cause
 
--- a call ends the run by a read fault if the reader of this source failed in it, after all its bytes
-abbrev pub SourceFails : {A R : Type 0} → (R → Option Script) → (R → ℕ) → Result A Stop → RunSource R → RunSource R
-    → Type 0
-SourceFails script failures (Err (stops.Ended causes.Read)) before after = HasFailed script failures before after
-SourceFails script failures result before after = is_sound failures before after
+module _ {A R : Type 0} (script : R → Option Script) (failures : R → ℕ) where
+  -- a call ends the run by a read fault if the reader of this source failed in it, after all its bytes
+  abbrev pub SourceFails : Result A Stop → RunSource R → RunSource R → Type 0
+  SourceFails (Err (stops.Ended causes.Read)) before after = HasFailed script failures before after
+  SourceFails result before after = is_sound failures before after
 
-abbrev pub SourcesFail : {A R : Type 0} → (R → Option Script) → (R → ℕ) → Result A Stop → List (RunSource R)
-    → List (RunSource R) → Type 0
-SourcesFail script failures (Err (stops.Ended causes.Read)) before after = AnyFailed script failures before after
-SourcesFail script failures result before after = AllPairs (is_sound failures) before after
+  abbrev pub SourcesFail : Result A Stop → List (RunSource R) → List (RunSource R) → Type 0
+  SourcesFail (Err (stops.Ended causes.Read)) before after = AnyFailed script failures before after
+  SourcesFail result before after = AllPairs (is_sound failures) before after
 
 -- by a result: a call that ends the run by another cause than a write fault writes no frozen text
 abbrev pub SparesBy : {A : Type 0} → Result A Stop → Three (Option (List ℕ)) → Type 0

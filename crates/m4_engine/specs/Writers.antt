@@ -1,12 +1,34 @@
 -- Writers: a call's writers before and after it: the bytes of each, and how often it failed.
 -- Believed: each clause on written bytes cites it. Manual: "Invoking m4".
--- Words: Both, writers, both, Three, three, all_three, Contents, Failures, NoneFailed, OneFailed, NoneOfThree,
--- IsSpared, OneOfThree, ThreeFailBy, Spares, ByCause, IfBroken, FailsBy, Broken, HasWritten, WroteAtLeast.
+-- Words: Change, change, Writing, writes, Both, writers, both, Three, three, contents_of, failures_of, Contents,
+-- Failures, NoneFailed, OneFailed, NoneOfThree, IsSpared, OneOfThree, ThreeFailBy, Spares, ByCause, IfBroken, FailsBy,
+-- Broken, HasWritten, WroteAtLeast.
 use Rattle.std.specs.Prelude.{◌≡◌, ℕ, List, ◌++◌, Option, ◌⊎◌}
 use Rattle.m4_state.specs.Device.{with_bytes, HasBegun, one_more}
 use Rattle.m4_engine.specs.declared.ending.Cause.{Cause}
 use Rattle.m4_engine.specs.declared.ending.Cause.TheVariants as causes
 use Rattle.m4_engine.specs.Expansion.{Ended}
+
+-- a value of a device before a call and after it: its contents, say, or its count of failures
+pub record Change (A : Type 0) : Type 0 where
+  pub old : A
+  pub new : A
+
+-- the same, computed for a device that is first `before` and then `after`
+abbrev pub change : {D A : Type 0} → (D → A) → D → D → Change A
+change of before after = record { old = of before; new = of after }
+
+-- a writer over a call: its contents, if the proofs know them, and its count of failures, before and after
+pub record Writing : Type 0 where
+  pub old : Option (List ℕ)
+  pub new : Option (List ℕ)
+  pub failures_old : ℕ
+  pub failures_new : ℕ
+
+-- the writer that is first `before` and then `after`, by the functions of its trait
+abbrev pub writes : {D : Type 0} → (D → Option (List ℕ)) → (D → ℕ) → D → D → Writing
+writes contents failures before after =
+    record { old = contents before; new = contents after; failures_old = failures before; failures_new = failures after }
 
 -- a value for the writer of output and one for the writer of messages, before a call and after it
 pub record Both (A : Type 0) : Type 0 where
@@ -74,10 +96,21 @@ three of_frozen two frozen_old frozen_new = record {
   frozen_new = of_frozen frozen_new;
 }
 
--- the same, computed for each of the three
-abbrev pub all_three : {O M Z A : Type 0} → (O → A) → (M → A) → (Z → A) → O → O → M → M → Z → Z → Three A
-all_three of_out of_messages of_frozen out_old out_new messages_old messages_new frozen_old frozen_new =
-    three of_frozen (both of_out of_messages out_old out_new messages_old messages_new) frozen_old frozen_new
+-- the contents of the writers of output, of messages and of the frozen text
+abbrev pub contents_of : Writing → Writing → Writing → Three (Option (List ℕ))
+contents_of out messages frozen = record {
+  two = writers out.old out.new messages.old messages.new;
+  frozen_old = frozen.old;
+  frozen_new = frozen.new;
+}
+
+-- how often each of them failed
+abbrev pub failures_of : Writing → Writing → Writing → Three ℕ
+failures_of out messages frozen = record {
+  two = writers out.failures_old out.failures_new messages.failures_old messages.failures_new;
+  frozen_old = frozen.failures_old;
+  frozen_new = frozen.failures_new;
+}
 
 -- none of three writers failed in the call
 abbrev pub NoneOfThree : Three ℕ → Type 0

@@ -11,7 +11,7 @@ ghost use Rattle.m4_engine.specs.RunSteps.{UsesLast, UsesWriters, MarksAnyUnopen
 ghost use Rattle.m4_engine.specs.Session.{IsOpen, progress_of};
 ghost use Rattle.m4_engine.specs.SessionFailures.{WriteFails};
 ghost use Rattle.m4_engine.specs.SourcesRead.{ReadsSources, ReadsToEnd};
-ghost use Rattle.m4_engine.specs.Writers.{all_three, both};
+ghost use Rattle.m4_engine.specs.Writers.{both, three, writes};
 ghost use Rattle.m4_engine.specs.SessionSteps.{IsLeft, ending_by};
 
 use crate::ending::{Cause, Ending};
@@ -45,10 +45,9 @@ pub fn run<R: ByteSource, O: ByteSink, M: ByteSink, Z: ByteSink>(
       file_new = frozen.new;
       sources_old = sources.old;
       sources_new = sources.new;
-      contents = all_three O.contents M.contents Z.contents
-          out.old out.new messages.old messages.new freeze_to.old freeze_to.new;
-      failures = all_three O.failures M.failures Z.failures
-          out.old out.new messages.old messages.new freeze_to.old freeze_to.new;
+      out = writes O.contents O.failures out.old out.new;
+      messages = writes M.contents M.failures messages.old messages.new;
+      frozen = writes Z.contents Z.failures freeze_to.old freeze_to.new;
       freeze_old = freeze_to.old;
       freeze_new = freeze_to.new;
     }) result }
@@ -75,10 +74,9 @@ pub fn run_keeping<R: ByteSource, O: ByteSink, M: ByteSink, Z: ByteSink>(
       file_new = frozen.new;
       sources_old = sources.old;
       sources_new = sources.new;
-      contents = all_three O.contents M.contents Z.contents
-          out.old out.new messages.old messages.new freeze_to.old freeze_to.new;
-      failures = all_three O.failures M.failures Z.failures
-          out.old out.new messages.old messages.new freeze_to.old freeze_to.new;
+      out = writes O.contents O.failures out.old out.new;
+      messages = writes M.contents M.failures messages.old messages.new;
+      frozen = writes Z.contents Z.failures freeze_to.old freeze_to.new;
       freeze_old = freeze_to.old;
       freeze_new = freeze_to.new;
     }) result.0 }
@@ -138,22 +136,22 @@ fn read_to_end<R: ByteSource, O: ByteSink, M: ByteSink, Z: ByteSink>(
     ensures left { IsLeft session.new result }
     ensures writes { (ss : List Said) → DescribeSources R.script sources.old sources.new ss →
         WritesToEnd freezes ss session.old session.new
-        (all_three O.contents M.contents Z.contents
-        out.old out.new messages.old messages.new freeze_to.old freeze_to.new) result }
+        (three Z.contents (both O.contents M.contents out.old out.new messages.old messages.new)
+        freeze_to.old freeze_to.new) result }
     ensures frozen { (ss : List Said) → DescribeSources R.script sources.old sources.new ss →
         FreezesState freezes (state_at_end session.old ss) result }
     ensures last { (ss : List Said) → DescribeSources R.script sources.old sources.new ss →
         UsesLast freezes ss session.old freeze_to.old freeze_to.new
-        (all_three O.contents M.contents Z.contents
-        out.old out.new messages.old messages.new freeze_to.old freeze_to.new) result }
+        (three Z.contents (both O.contents M.contents out.old out.new messages.old messages.new)
+        freeze_to.old freeze_to.new) result }
     ensures reads { ReadsToEnd R.script R.failures sources.old sources.new session.old
         (both O.contents M.contents out.old out.new messages.old messages.new) result }
     ensures marks { MarksAnyUnopened sources.old sources.new session.old.any_missing session.new.any_missing result }
     ensures writers { UsesWriters freezes freeze_to.old freeze_to.new
-        (all_three O.failures M.failures Z.failures
-        out.old out.new messages.old messages.new freeze_to.old freeze_to.new)
-        (all_three O.contents M.contents Z.contents
-        out.old out.new messages.old messages.new freeze_to.old freeze_to.new) result }
+        (three Z.failures (both O.failures M.failures out.old out.new messages.old messages.new)
+        freeze_to.old freeze_to.new)
+        (three Z.contents (both O.contents M.contents out.old out.new messages.old messages.new)
+        freeze_to.old freeze_to.new) result }
 {
     read_sources(session, sources, out, messages)?;
     let wrapped = session.wrapped();

@@ -2,7 +2,7 @@
 //! Manual: "Command line files", "Invoking m4".
 
 ghost use Rattle.std.specs.Prelude.{◌≡◌, true, false, [], IfOk, IfErr, OnOk, Err};
-ghost use Rattle.m4_engine.specs.Writers.{all_three, both};
+ghost use Rattle.m4_engine.specs.Writers.{both, three};
 ghost use Rattle.m4_engine.specs.Session.{IsOpen, session_from, fresh_session, ReloadGives};
 ghost use Rattle.m4_engine.specs.Session.{FileGives, MissingGives, FinishGives, FreezeGives, FreezeUses};
 ghost use Rattle.m4_engine.specs.Session.{last_state, session_after_wraps, is_saved, status_at, progress_of};
@@ -269,23 +269,23 @@ impl Session {
     ) -> Result<(), Stop>
         // session steps: the saved texts, then the frozen text
         ensures gives { FreezeGives self.old self.new
-            (all_three O.contents M.contents Z.contents
-            out.old out.new messages.old messages.new freeze_to.old freeze_to.new)
+            (three Z.contents (both O.contents M.contents out.old out.new messages.old messages.new)
+            freeze_to.old freeze_to.new)
             result }
         // in order: if it is broken off, output and messages were written in the order in which they are made
         ensures order { BreaksBy result (Breaks (InEnd self.old.limits) (progress_of self.old)
             (both O.contents M.contents out.old out.new messages.old messages.new)) }
         // safe and total: a write fault is returned only if a writer failed in this call
         ensures write { ThreeFail result
-            (all_three O.failures M.failures Z.failures
-            out.old out.new messages.old messages.new freeze_to.old freeze_to.new)
-            (all_three O.contents M.contents Z.contents
-            out.old out.new messages.old messages.new freeze_to.old freeze_to.new) }
+            (three Z.failures (both O.failures M.failures out.old out.new messages.old messages.new)
+            freeze_to.old freeze_to.new)
+            (three Z.contents (both O.contents M.contents out.old out.new messages.old messages.new)
+            freeze_to.old freeze_to.new) }
         // faults leave beginnings: a write fault comes before the writer of the frozen text is used, or after
         // everything else was written
         ensures last { FreezeUses self.old freeze_to.old freeze_to.new
-            (all_three O.contents M.contents Z.contents
-            out.old out.new messages.old messages.new freeze_to.old freeze_to.new)
+            (three Z.contents (both O.contents M.contents out.old out.new messages.old messages.new)
+            freeze_to.old freeze_to.new)
             result }
         ensures any_missing { self.new.any_missing ≡ self.old.any_missing }
     {

@@ -2,6 +2,7 @@
 -- Believed: public contracts cite it. Words: Grew, Rose, Counts, counts_of, NoneRose, AnyRose, FailedAs.
 use Rattle.std.specs.Prelude.{◌≡◌, ◌⊎◌, ◌≤◌, ◌^◌, ◌-◌, min, ℕ, Option, Some, None}
 use Rattle.m4_state.specs.Device.{one_more}
+use Rattle.m4_engine.specs.Writers.{Change}
 use Rattle.m4_tool.specs.declared.followed.Failure.{Failure}
 use Rattle.m4_tool.specs.declared.followed.Failure.TheVariants as failures
 
@@ -26,10 +27,9 @@ abbrev pub counts : ℕ → ℕ → ℕ → ℕ → ℕ → ℕ → Counts
 counts o o' m m' w w' =
     record { out_old = o; out_new = o'; messages_old = m; messages_new = m'; world_old = w; world_new = w' }
 
--- the counts of the devices, by the functions of their traits
-abbrev pub counts_of : {O M W : Type 0} → (O → ℕ) → (M → ℕ) → (W → ℕ) → O → O → M → M → W → W → Counts
-counts_of of_out of_messages of_world out out' messages messages' world world' =
-    counts (of_out out) (of_out out') (of_messages messages) (of_messages messages') (of_world world) (of_world world')
+-- the counts of the output, of the messages and of the world
+abbrev pub counts_of : Change ℕ → Change ℕ → Change ℕ → Counts
+counts_of out messages world = counts out.old out.new messages.old messages.new world.old world.new
 
 -- nothing failed
 abbrev pub NoneRose : Counts → Type 0

@@ -1,6 +1,6 @@
 -- LineEnd: how following a line ends: as the line is defined, or broken off by a failure. Its point is `Follows`.
--- Believed: public contracts cite it. Words: Seen, seen, AllShown, IsShownSince, Reports, failure_of, AsDefined,
--- BrokeOff, Follows.
+-- Believed: public contracts cite it. Words: Seen, seen, IsShown, IsShownSince, IsShownAfter, StaysShown, KeepsShown,
+-- Reports, failure_of, AsDefined, BrokeOff, Follows.
 -- own: that a last flush that fails is a write fault.
 use Rattle.std.specs.Prelude.{◌≡◌, ◌≢◌, ◌⊎◌, ℕ, Bool, true, false, List, [], ◌∷◌, ◌++◌, Option, Some, None}
 use Rattle.std.specs.Prelude.{option_map, unwrap_or}
@@ -9,6 +9,7 @@ use Rattle.m4_frozen.specs.declared.fault.FrozenKind.{FrozenKind}
 use Rattle.m4_frozen.specs.declared.fault.FrozenKind.TheVariants as kinds
 use Rattle.m4_engine.specs.declared.ending.Cause.{Cause}
 use Rattle.m4_engine.specs.declared.ending.Cause.TheVariants as causes
+use Rattle.m4_engine.specs.Writers.{Change}
 use Rattle.m4_tool.specs.declared.followed.Failure.{Failure}
 use Rattle.m4_tool.specs.declared.followed.Failure.TheVariants as failures
 use Rattle.m4_tool.specs.Failure.{failure_lines}
@@ -27,30 +28,42 @@ pub record Seen : Type 0 where
   pub files_old : Option Files
   pub files_new : Option Files
 
--- the same, by the functions of their traits
-abbrev pub seen : {O M W : Type 0} → (O → Option (List ℕ)) → (M → Option (List ℕ)) → (M → ℕ) → (W → Option Files)
-    → O → O → M → M → W → W → Seen
-seen of_out of_messages count of_files out out' messages messages' world world' = record {
-  out_old = of_out out;
-  out_new = of_out out';
-  messages_old = of_messages messages;
-  messages_new = of_messages messages';
-  failures_old = count messages;
-  failures_new = count messages';
-  files_old = of_files world;
-  files_new = of_files world';
+-- the same, by what changes
+abbrev pub seen : Change (Option (List ℕ)) → Change (Option (List ℕ)) → Change ℕ → Change (Option Files) → Seen
+seen out messages failures files = record {
+  out_old = out.old;
+  out_new = out.new;
+  messages_old = messages.old;
+  messages_new = messages.new;
+  failures_old = failures.old;
+  failures_new = failures.new;
+  files_old = files.old;
+  files_new = files.new;
 }
 
--- all that was written is flushed: the output, the messages and the file that was made
-abbrev pub AllShown : {O M W : Type 0} → (O → Option (List ℕ)) → (O → Option (List ℕ)) → (M → Option (List ℕ))
-    → (M → Option (List ℕ)) → (W → Option Files) → (W → Option Files) → O → M → W → Type 0
-AllShown shown contents messages_shown messages_contents kept files out messages world =
-    (shown out ≡ contents out) × (messages_shown messages ≡ messages_contents messages) × (kept world ≡ files world)
+-- all that was written to a device is flushed, by the functions of its trait for what is shown and for what it has
+abbrev pub IsShown : {D A : Type 0} → (D → Option A) → (D → Option A) → D → Type 0
+IsShown shown contents device = shown device ≡ contents device
 
 -- all that a writer has is shown, or a write or a flush of it failed since it had so many failures
 pub record IsShownSince (base : ℕ) (shown contents : Option (List ℕ)) (failures : ℕ) : Type 0 where
   pub grew : Grew base failures
   pub shows : (shown ≡ contents) ⊎ Rose base failures
+
+-- the same of a writer that is first `old` and then `new`, by the functions of its trait: since it was `old`
+abbrev pub IsShownAfter : {D : Type 0} → (D → ℕ) → (D → Option (List ℕ)) → (D → Option (List ℕ)) → D → D → Type 0
+IsShownAfter failures shown contents old new = IsShownSince (failures old) (shown new) (contents new) (failures new)
+
+-- since any time at which it had no more failures than `old`
+abbrev pub StaysShown : {D : Type 0} → (D → ℕ) → (D → Option (List ℕ)) → (D → Option (List ℕ)) → D → D → Type 0
+StaysShown failures shown contents old new =
+    (base : ℕ) → Grew base (failures old) → IsShownSince base (shown new) (contents new) (failures new)
+
+-- what was shown since some time still is
+abbrev pub KeepsShown : {D : Type 0} → (D → ℕ) → (D → Option (List ℕ)) → (D → Option (List ℕ)) → D → D → Type 0
+KeepsShown failures shown contents old new =
+    (base : ℕ) → IsShownSince base (shown old) (contents old) (failures old)
+    → IsShownSince base (shown new) (contents new) (failures new)
 
 -- a line was added to the messages, or a prefix of it if the messages failed
 abbrev pub Reported : List ℕ → Option (List ℕ) → Option (List ℕ) → ℕ → ℕ → Type 0

@@ -1,5 +1,5 @@
 -- The results of the modes for the bytes of a frozen file.
--- Believed: public contracts cite it. Words: CanonEnds, InspectEnds, ReportsFault, IsOfDevice, ModeRuns, RunsBy.
+-- Believed: public contracts cite it. Words: CanonEnds, InspectEnds, ReportsFault, IsOfDevice, Reading, reads, ModeRuns.
 -- own: a file that would issue text has no canonical text.
 use Rattle.std.specs.Prelude.{◌≡◌, ◌≢◌, ℕ, false, List, [], Option, Result, Ok, Err, IfSome}
 use Rattle.m4_state.specs.Device.{Script, with_bytes, count_after, one_more, HasBegun, Puts}
@@ -10,6 +10,7 @@ use Rattle.m4_frozen.specs.declared.loading.Loaded.{Loaded}
 use Rattle.m4_frozen.specs.Freeze.{freeze}
 use Rattle.m4_frozen.specs.Listing.{listing}
 use Rattle.m4_frozen.specs.Outcome.{Loads, IsFaultOf}
+use Rattle.m4_engine.specs.Writers.{Writing}
 use Rattle.m4_tool.specs.declared.fault.ModeFault.{ModeFault}
 use Rattle.m4_tool.specs.declared.fault.ModeFault.TheVariants as faults
 use Rattle.m4_tool.specs.ModeFault.{fault_line, status_of}
@@ -71,25 +72,13 @@ pub record Reading : Type 0 where
   pub failures_old : ℕ
   pub failures_new : ℕ
 
--- a writer over a call: its contents, if the proofs know them, and its count of failures, before and after
-pub record Writing : Type 0 where
-  pub old : Option (List ℕ)
-  pub new : Option (List ℕ)
-  pub failures_old : ℕ
-  pub failures_new : ℕ
-
 -- the reader that is first `old` and then `new`, by the functions of its trait
 abbrev pub reads : {A : Type 0} → (A → Option Script) → (A → ℕ) → A → A → Reading
 reads script failures old new =
     record { script = script old; failures_old = failures old; failures_new = failures new }
 
--- the writer that is first `old` and then `new`, by the functions of its trait
-abbrev pub writes : {A : Type 0} → (A → Option (List ℕ)) → (A → ℕ) → A → A → Writing
-writes contents failures old new =
-    record { old = contents old; new = contents new; failures_old = failures old; failures_new = failures new }
-
 -- how a mode ends: `CanonEnds` or `InspectEnds`
-abbrev Ends : Type 1
+abbrev pub Ends : Type 1
 Ends = Result (Unit {0}) ModeFault → Script → Option (List ℕ) → Option (List ℕ) → Type 0
 
 -- a mode was run on this file and returned this status: the status, the output, the devices and the
@@ -101,10 +90,3 @@ pub record ModeRuns (Finishes : Ends) (file : List ℕ) (reader : Reading) (out 
   pub output : IfSome reader.script (λ script. Finishes end script out.old out.new)
   pub device : IsOfDevice end reader.failures_old reader.failures_new out.failures_old out.failures_new
   pub messages : ReportsFault end file errors.old errors.new errors.failures_old errors.failures_new
-
--- the same, by the functions of the traits of its reader and its writers
-abbrev pub RunsBy : {R O M : Type 0} → Ends → List ℕ → (R → Option Script) → (R → ℕ) → (O → Option (List ℕ)) → (O → ℕ)
-    → (M → Option (List ℕ)) → (M → ℕ) → R → R → O → O → M → M → ℕ → Type 0
-RunsBy Finishes file script taken contents put reported told reader reader' out out' messages messages' answer =
-    ModeRuns Finishes file (reads script taken reader reader') (writes contents put out out')
-    (writes reported told messages messages') answer

@@ -6,6 +6,7 @@ ghost use Rattle.m4_state.specs.Device.{Script};
 ghost use Rattle.m4_engine.specs.RunSources.{DescribesFrozen};
 ghost use Rattle.m4_engine.specs.File.{Source as Said};
 ghost use Rattle.m4_engine.specs.Run.{run as defined};
+ghost use Rattle.m4_engine.specs.Writers.{change, writes};
 ghost use Rattle.m4_tool.specs.World.{Files};
 ghost use Rattle.m4_tool.specs.FollowPromises.{EndsRun, IsFollowed};
 ghost use Rattle.m4_tool.specs.Line.{LineResult, Starts, freeze_name, line_result, request_of, result_of_run};
@@ -13,9 +14,9 @@ ghost use Rattle.m4_tool.specs.Line.{thaw_in, words_of};
 ghost use Rattle.m4_tool.specs.FailureCounts.{AnyRose, FailedAs, counts_of};
 ghost use Rattle.m4_tool.specs.declared.followed.Failure.TheVariants as failures;
 ghost use Rattle.m4_tool.specs.Known.{AnyFails, ExtendFiles, Knows, KnowsFiles, MayGive};
-ghost use Rattle.m4_tool.specs.LineEnd.{AllShown, EndsBy, Follows, IsShownSince, seen};
+ghost use Rattle.m4_tool.specs.LineEnd.{EndsBy, Follows, IsShown, IsShownAfter, seen};
 ghost use Rattle.m4_tool.specs.LineMode.{ModeFollows, ends_of, mode_of};
-ghost use Rattle.m4_tool.specs.Modes.{RunsBy};
+ghost use Rattle.m4_tool.specs.Modes.{ModeRuns, reads};
 ghost use Rattle.m4_tool.specs.Unfinished.{LeavesMarked};
 
 mod closing;
@@ -47,14 +48,16 @@ pub fn follow<W: World, O: Shows, M: Shows>(
         → mode_of line.now ≡ None → Knows W.making W.files W.input world files input
         → line_result (request_of line.now) files input ≡ Some r
         → Follows (request_of line.now) r result.status result.failure
-        (seen O.contents M.contents M.failures W.files out.old out.new messages.old messages.new world result.world) }
+        (seen (change O.contents out.old out.new) (change M.contents messages.old messages.new)
+        (change M.failures messages.old messages.new) (change W.files world result.world)) }
     // line in a world: if the reader of a source fails, those over any source that begins with its bytes, if the run
     // ended before the fault; otherwise prefixes of them
     ensures extends { (files : Files) (input : Script) (r : LineResult)
         → mode_of line.now ≡ None → Knows W.making W.files W.input world files input
         → MayGive (request_of line.now) files input r
         → Follows (request_of line.now) r result.status result.failure
-        (seen O.contents M.contents M.failures W.files out.old out.new messages.old messages.new world result.world) }
+        (seen (change O.contents out.old out.new) (change M.contents messages.old messages.new)
+        (change M.failures messages.old messages.new) (change W.files world result.world)) }
     // split: each call is one of those that the law `three_lines` takes, with the bytes and files of its devices
     ensures followed { (files files_new : Files) (input : Script) (o o' m m' : List ℕ)
         → mode_of line.now ≡ None → Knows W.making W.files W.input world files input
@@ -81,28 +84,29 @@ pub fn follow<W: World, O: Shows, M: Shows>(
     ensures mode { IfSome (mode_of line.now) (λ found. (files : Files)
         → KnowsFiles W.making W.files world files
         → ModeFollows found.0 found.1 (files found.1) result.status
-        (seen O.contents M.contents M.failures W.files out.old out.new messages.old messages.new world result.world)
-        (counts_of O.failures M.failures W.failures out.old out.new messages.old messages.new world result.world)) }
+        (seen (change O.contents out.old out.new) (change M.contents messages.old messages.new)
+        (change M.failures messages.old messages.new) (change W.files world result.world))
+        (counts_of (change O.failures out.old out.new) (change M.failures messages.old messages.new)
+        (change W.failures world result.world))) }
     // safe and total: a failed write or flush is reported only if one failed in this call
-    ensures counted { mode_of line.now ≡ None → FailedAs result.failure (counts_of O.failures M.failures W.failures
-        out.old out.new messages.old messages.new world result.world) }
+    ensures counted { mode_of line.now ≡ None → FailedAs result.failure (counts_of (change O.failures out.old out.new)
+        (change M.failures messages.old messages.new) (change W.failures world result.world)) }
     // safe and total: a read fault is reported only if the reader of one of the files fails
     ensures read { (files : Files) (input : Script)
         → mode_of line.now ≡ None → Knows W.making W.files W.input world files input
         → result.failure ≡ Some failures.Read → AnyFails files input (words_of (request_of line.now).names) }
     // safe and total: in a mode too, a flush that failed is reported only if one failed in this call
-    ensures flushed { result.failure ≡ Some failures.Write → AnyRose (counts_of O.failures M.failures W.failures
-        out.old out.new messages.old messages.new world result.world) }
+    ensures flushed { result.failure ≡ Some failures.Write → AnyRose (counts_of (change O.failures out.old out.new)
+        (change M.failures messages.old messages.new) (change W.failures world result.world)) }
     // line in a world: if nothing failed, all that was written is flushed: the output, the messages and the file
     // that was made
     ensures shown { result.failure ≡ None
-        → AllShown O.shown O.contents M.shown M.contents W.kept W.files out.new messages.new result.world }
+        → IsShown O.shown O.contents out.new × IsShown M.shown M.contents messages.new
+        × IsShown W.kept W.files result.world }
     // line in a world: what was written is flushed at the end whatever failed, unless a write or a flush of the same
     // writer did
-    ensures shown_output { IsShownSince (O.failures out.old) (O.shown out.new) (O.contents out.new)
-        (O.failures out.new) }
-    ensures shown_messages { IsShownSince (M.failures messages.old) (M.shown messages.new) (M.contents messages.new)
-        (M.failures messages.new) }
+    ensures shown_output { IsShownAfter O.failures O.shown O.contents out.old out.new }
+    ensures shown_messages { IsShownAfter M.failures M.shown M.contents messages.old messages.new }
 {
     match mode_of(line) {
         Some((mode, file)) => follow_mode(alloc, mode, file, world, out, messages),
@@ -132,16 +136,17 @@ fn follow_mode<W: World, O: Shows, M: Shows>(
 ) -> Followed<W>
     ensures follows { (files : Files) → KnowsFiles W.making W.files world files
         → ModeFollows mode file.now (files file.now) result.status
-        (seen O.contents M.contents M.failures W.files out.old out.new messages.old messages.new world result.world)
-        (counts_of O.failures M.failures W.failures out.old out.new messages.old messages.new world result.world) }
-    ensures flushed { result.failure ≡ Some failures.Write → AnyRose (counts_of O.failures M.failures W.failures
-        out.old out.new messages.old messages.new world result.world) }
+        (seen (change O.contents out.old out.new) (change M.contents messages.old messages.new)
+        (change M.failures messages.old messages.new) (change W.files world result.world))
+        (counts_of (change O.failures out.old out.new) (change M.failures messages.old messages.new)
+        (change W.failures world result.world)) }
+    ensures flushed { result.failure ≡ Some failures.Write → AnyRose (counts_of (change O.failures out.old out.new)
+        (change M.failures messages.old messages.new) (change W.failures world result.world)) }
     ensures shown { result.failure ≡ None
-        → AllShown O.shown O.contents M.shown M.contents W.kept W.files out.new messages.new result.world }
-    ensures shown_output { IsShownSince (O.failures out.old) (O.shown out.new) (O.contents out.new)
-        (O.failures out.new) }
-    ensures shown_messages { IsShownSince (M.failures messages.old) (M.shown messages.new) (M.contents messages.new)
-        (M.failures messages.new) }
+        → IsShown O.shown O.contents out.new × IsShown M.shown M.contents messages.new
+        × IsShown W.kept W.files result.world }
+    ensures shown_output { IsShownAfter O.failures O.shown O.contents out.old out.new }
+    ensures shown_messages { IsShownAfter M.failures M.shown M.contents messages.old messages.new }
 {
     match world.open(file) {
         Some(mut reader) => {
@@ -164,8 +169,8 @@ fn run_mode<R: ByteSource, O: ByteSink, M: ByteSink>(
     out: &mut O,
     messages: &mut M,
 ) -> u8
-    ensures { RunsBy (ends_of mode) file.now R.script R.failures O.contents O.failures M.contents M.failures
-        reader.old reader.new out.old out.new messages.old messages.new result }
+    ensures { ModeRuns (ends_of mode) file.now (reads R.script R.failures reader.old reader.new)
+        (writes O.contents O.failures out.old out.new) (writes M.contents M.failures messages.old messages.new) result }
 {
     match mode {
         Mode::Canon => modes::canon(alloc, file, reader, out, messages),
@@ -185,7 +190,8 @@ fn follow_run<W: World, O: Shows, M: Shows>(
         → Knows W.making W.files W.input world files input
         → MayGive (request_of line.now) files input r
         → Follows (request_of line.now) r result.status result.failure
-        (seen O.contents M.contents M.failures W.files out.old out.new messages.old messages.new world result.world) }
+        (seen (change O.contents out.old out.new) (change M.contents messages.old messages.new)
+        (change M.failures messages.old messages.new) (change W.files world result.world)) }
     ensures ended { (files : Files) (input : Script) (script : Option Script) (ss : List Said)
         → Knows W.making W.files W.input world files input
         → thaw_in files (request_of line.now).reload ≡ Starts script
@@ -195,14 +201,13 @@ fn follow_run<W: World, O: Shows, M: Shows>(
         → LeavesMarked (freeze_name (request_of line.now)) (W.kept world) (W.kept result.world)) }
     ensures read { (files : Files) (input : Script) → Knows W.making W.files W.input world files input
         → result.failure ≡ Some failures.Read → AnyFails files input (words_of (request_of line.now).names) }
-    ensures counted { FailedAs result.failure (counts_of O.failures M.failures W.failures
-        out.old out.new messages.old messages.new world result.world) }
+    ensures counted { FailedAs result.failure (counts_of (change O.failures out.old out.new)
+        (change M.failures messages.old messages.new) (change W.failures world result.world)) }
     ensures shown { result.failure ≡ None
-        → AllShown O.shown O.contents M.shown M.contents W.kept W.files out.new messages.new result.world }
-    ensures shown_output { IsShownSince (O.failures out.old) (O.shown out.new) (O.contents out.new)
-        (O.failures out.new) }
-    ensures shown_messages { IsShownSince (M.failures messages.old) (M.shown messages.new) (M.contents messages.new)
-        (M.failures messages.new) }
+        → IsShown O.shown O.contents out.new × IsShown M.shown M.contents messages.new
+        × IsShown W.kept W.files result.world }
+    ensures shown_output { IsShownAfter O.failures O.shown O.contents out.old out.new }
+    ensures shown_messages { IsShownAfter M.failures M.shown M.contents messages.old messages.new }
 {
     match &line.reload {
         None => follow_from(alloc, line, &mut None, b"", world, out, messages),
@@ -239,7 +244,8 @@ fn follow_from<W: World, O: Shows, M: Shows>(
         → ExtendFiles files input (words_of (request_of line.now).names) ss
         → EndsBy result.failure (freeze_name (request_of line.now)) file.now
         (result_of_run file.now (defined line.now.options script ss)) result.status
-        (seen O.contents M.contents M.failures W.files out.old out.new messages.old messages.new world result.world) }
+        (seen (change O.contents out.old out.new) (change M.contents messages.old messages.new)
+        (change M.failures messages.old messages.new) (change W.files world result.world)) }
     ensures ended { (files : Files) (input : Script) (script : Option Script) (ss : List Said)
         → Knows W.making W.files W.input world files input → DescribesFrozen W.Reader.script frozen.old script
         → ExtendFiles files input (words_of (request_of line.now).names) ss → result.failure ≡ None
@@ -248,14 +254,13 @@ fn follow_from<W: World, O: Shows, M: Shows>(
         → LeavesMarked (freeze_name (request_of line.now)) (W.kept world) (W.kept result.world)) }
     ensures read { (files : Files) (input : Script) → Knows W.making W.files W.input world files input
         → result.failure ≡ Some failures.Read → AnyFails files input (words_of (request_of line.now).names) }
-    ensures counted { FailedAs result.failure (counts_of O.failures M.failures W.failures
-        out.old out.new messages.old messages.new world result.world) }
+    ensures counted { FailedAs result.failure (counts_of (change O.failures out.old out.new)
+        (change M.failures messages.old messages.new) (change W.failures world result.world)) }
     ensures shown { result.failure ≡ None
-        → AllShown O.shown O.contents M.shown M.contents W.kept W.files out.new messages.new result.world }
-    ensures shown_output { IsShownSince (O.failures out.old) (O.shown out.new) (O.contents out.new)
-        (O.failures out.new) }
-    ensures shown_messages { IsShownSince (M.failures messages.old) (M.shown messages.new) (M.contents messages.new)
-        (M.failures messages.new) }
+        → IsShown O.shown O.contents out.new × IsShown M.shown M.contents messages.new
+        × IsShown W.kept W.files result.world }
+    ensures shown_output { IsShownAfter O.failures O.shown O.contents out.old out.new }
+    ensures shown_messages { IsShownAfter M.failures M.shown M.contents messages.old messages.new }
 {
     let ran = run_line(alloc, line, frozen, world, out, messages);
     close(

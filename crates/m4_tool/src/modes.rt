@@ -5,8 +5,9 @@
 
 ghost use Rattle.std.specs.Prelude.{◌≡◌, ℕ, IfSome};
 ghost use Rattle.m4_state.specs.Device.{Script};
+ghost use Rattle.m4_engine.specs.Writers.{writes};
 ghost use Rattle.m4_tool.specs.ModeFault.{status_of};
-ghost use Rattle.m4_tool.specs.Modes.{CanonEnds, Holds, InspectEnds, IsOfDevice, ReportsFault, RunsBy};
+ghost use Rattle.m4_tool.specs.Modes.{CanonEnds, Holds, InspectEnds, IsOfDevice, ModeRuns, ReportsFault, reads};
 
 use crate::fault::ModeFault;
 use m4_frozen::inspector::list;
@@ -37,8 +38,8 @@ pub fn canon<R: ByteSource, O: ByteSink, M: ByteSink>(
     // exact writer: the canonical text of a file that is read and issues nothing, and status 0; otherwise
     // nothing, and the line and the status of the fault
     // safe and total: a fault of a device is returned only if that device failed in this call
-    ensures { RunsBy CanonEnds file.now R.script R.failures O.contents O.failures M.contents M.failures
-        reader.old reader.new out.old out.new messages.old messages.new result }
+    ensures { ModeRuns CanonEnds file.now (reads R.script R.failures reader.old reader.new)
+        (writes O.contents O.failures out.old out.new) (writes M.contents M.failures messages.old messages.new) result }
 {
     let end = canonicalise(alloc, reader, out);
     answer(end, file, messages)
@@ -55,8 +56,8 @@ pub fn inspect<R: ByteSource, O: ByteSink, M: ByteSink>(
     // exact writer: the lines of a file that is read, and status 0; otherwise nothing, and the line and the
     // status of the fault
     // safe and total: a fault of a device is returned only if that device failed in this call
-    ensures { RunsBy InspectEnds file.now R.script R.failures O.contents O.failures M.contents M.failures
-        reader.old reader.new out.old out.new messages.old messages.new result }
+    ensures { ModeRuns InspectEnds file.now (reads R.script R.failures reader.old reader.new)
+        (writes O.contents O.failures out.old out.new) (writes M.contents M.failures messages.old messages.new) result }
 {
     let end = list_file(alloc, reader, out);
     answer(end, file, messages)

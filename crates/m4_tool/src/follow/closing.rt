@@ -1,11 +1,12 @@
 //! Ends a line: flushes its outputs and the file that was made, and reports its failure.
 
 ghost use Rattle.std.specs.Prelude.{◌≡◌, ◌≢◌, [], List, ℕ, None, Some, IfSome, false, true};
+ghost use Rattle.m4_engine.specs.Writers.{change};
 ghost use Rattle.m4_tool.specs.declared.followed.Failure.TheVariants as failures;
 ghost use Rattle.m4_tool.specs.Failure.{failure_lines};
 ghost use Rattle.m4_tool.specs.Line.{refusals, unreloaded};
-ghost use Rattle.m4_tool.specs.FailureCounts.{FailedAs, Grew, counts_of};
-ghost use Rattle.m4_tool.specs.LineEnd.{AllShown, EndsBy, IsShownSince, Reports, failure_of, seen};
+ghost use Rattle.m4_tool.specs.FailureCounts.{FailedAs, counts_of};
+ghost use Rattle.m4_tool.specs.LineEnd.{EndsBy, IsShown, KeepsShown, Reports, StaysShown, failure_of, seen};
 ghost use Rattle.m4_tool.specs.Unfinished.{LeavesMarked};
 ghost use Rattle.m4_tool.specs.LineRun.{ClosedAs, Closes, FlushedAs, ModeCloses, RefusedAs, failure_after};
 
@@ -30,17 +31,17 @@ pub fn close<W: World, O: Shows, M: Shows>(
 ) -> Followed<W>
     ensures ending { result.ending ≡ ending }
     ensures closes { Closes file.now ending result.status result.failure
-        (seen O.contents M.contents M.failures W.files out.old out.new messages.old messages.new world result.world) }
-    ensures counted { ClosedAs ending.cause result.failure (counts_of O.failures M.failures W.failures
-        out.old out.new messages.old messages.new world result.world) }
+        (seen (change O.contents out.old out.new) (change M.contents messages.old messages.new)
+        (change M.failures messages.old messages.new) (change W.files world result.world)) }
+    ensures counted { ClosedAs ending.cause result.failure (counts_of (change O.failures out.old out.new)
+        (change M.failures messages.old messages.new) (change W.failures world result.world)) }
     ensures unfinished { IfSome result.failure (λ failure. failure ≢ failures.Report
         → LeavesMarked name.now (W.kept world) (W.kept result.world)) }
     ensures shown { result.failure ≡ None
-        → AllShown O.shown O.contents M.shown M.contents W.kept W.files out.new messages.new result.world }
-    ensures shown_output { (base : ℕ) → Grew base (O.failures out.old)
-        → IsShownSince base (O.shown out.new) (O.contents out.new) (O.failures out.new) }
-    ensures shown_messages { (base : ℕ) → Grew base (M.failures messages.old)
-        → IsShownSince base (M.shown messages.new) (M.contents messages.new) (M.failures messages.new) }
+        → IsShown O.shown O.contents out.new × IsShown M.shown M.contents messages.new
+        × IsShown W.kept W.files result.world }
+    ensures shown_output { StaysShown O.failures O.shown O.contents out.old out.new }
+    ensures shown_messages { StaysShown M.failures M.shown M.contents messages.old messages.new }
 {
     let mut world = world;
     let flushed = flush_all(ending.cause, name, &mut world, out, messages);
@@ -66,16 +67,15 @@ fn flush_all<W: World, O: Shows, M: Shows>(
 ) -> bool
     ensures output { O.contents out.new ≡ O.contents out.old }
     ensures messages { M.contents messages.new ≡ M.contents messages.old }
-    ensures counted { FlushedAs result (counts_of O.failures M.failures W.failures
-        out.old out.new messages.old messages.new world.old world.new) }
+    ensures counted { FlushedAs result (counts_of (change O.failures out.old out.new)
+        (change M.failures messages.old messages.new) (change W.failures world.old world.new)) }
     ensures files { W.files world.new ≡ W.files world.old }
     ensures unfinished { failure_of cause result ≢ None → LeavesMarked name.now (W.kept world.old) (W.kept world.new) }
     ensures shown { failure_of cause result ≡ None
-        → AllShown O.shown O.contents M.shown M.contents W.kept W.files out.new messages.new world.new }
-    ensures shown_output { (base : ℕ) → Grew base (O.failures out.old)
-        → IsShownSince base (O.shown out.new) (O.contents out.new) (O.failures out.new) }
-    ensures shown_messages { (base : ℕ) → Grew base (M.failures messages.old)
-        → IsShownSince base (M.shown messages.new) (M.contents messages.new) (M.failures messages.new) }
+        → IsShown O.shown O.contents out.new × IsShown M.shown M.contents messages.new
+        × IsShown W.kept W.files world.new }
+    ensures shown_output { StaysShown O.failures O.shown O.contents out.old out.new }
+    ensures shown_messages { StaysShown M.failures M.shown M.contents messages.old messages.new }
 {
     let output = out.flush().is_ok();
     let others = messages.flush().is_ok();
@@ -94,9 +94,7 @@ fn report_refusal<M: Shows>(cause: Cause, file: &[u8], messages: &mut M) -> bool
     ensures counted { RefusedAs result (M.failures messages.old) (M.failures messages.new) }
     ensures shown { result ≡ true → M.shown messages.old ≡ M.contents messages.old
         → M.shown messages.new ≡ M.contents messages.new }
-    ensures kept { (base : ℕ)
-        → IsShownSince base (M.shown messages.old) (M.contents messages.old) (M.failures messages.old)
-        → IsShownSince base (M.shown messages.new) (M.contents messages.new) (M.failures messages.new) }
+    ensures kept { KeepsShown M.failures M.shown M.contents messages.old messages.new }
 {
     match cause {
         Cause::Frozen(_) => {
@@ -113,9 +111,7 @@ fn report_last<M: Shows>(failure: Option<Failure>, messages: &mut M)
     ensures reports { Reports (failure_lines failure) (M.contents messages.old) (M.contents messages.new)
         (M.failures messages.old) (M.failures messages.new) }
     ensures unreported { failure ≡ None → messages.new ≡ messages.old }
-    ensures kept { (base : ℕ)
-        → IsShownSince base (M.shown messages.old) (M.contents messages.old) (M.failures messages.old)
-        → IsShownSince base (M.shown messages.new) (M.contents messages.new) (M.failures messages.new) }
+    ensures kept { KeepsShown M.failures M.shown M.contents messages.old messages.new }
 {
     match failure {
         Some(failure) => show_failure(failure, messages),
@@ -127,9 +123,7 @@ fn report_last<M: Shows>(failure: Option<Failure>, messages: &mut M)
 fn show_failure<M: Shows>(failure: Failure, messages: &mut M)
     ensures reports { Reports (failure_lines (Some failure)) (M.contents messages.old) (M.contents messages.new)
         (M.failures messages.old) (M.failures messages.new) }
-    ensures kept { (base : ℕ)
-        → IsShownSince base (M.shown messages.old) (M.contents messages.old) (M.failures messages.old)
-        → IsShownSince base (M.shown messages.new) (M.contents messages.new) (M.failures messages.new) }
+    ensures kept { KeepsShown M.failures M.shown M.contents messages.old messages.new }
 {
     let line = failure.line().as_bytes();
     if !line.is_empty() {
@@ -157,19 +151,19 @@ pub fn close_unopened<W: World, O: Shows, M: Shows>(
     messages: &mut M,
 ) -> Followed<W>
     ensures ends { (freezes : List ℕ) → EndsBy result.failure freezes file.now (unreloaded file.now) result.status
-        (seen O.contents M.contents M.failures W.files out.old out.new messages.old messages.new world result.world) }
+        (seen (change O.contents out.old out.new) (change M.contents messages.old messages.new)
+        (change M.failures messages.old messages.new) (change W.files world result.world)) }
     ensures unread { result.failure ≢ Some failures.Read }
-    ensures counted { FailedAs result.failure (counts_of O.failures M.failures W.failures
-        out.old out.new messages.old messages.new world result.world) }
+    ensures counted { FailedAs result.failure (counts_of (change O.failures out.old out.new)
+        (change M.failures messages.old messages.new) (change W.failures world result.world)) }
     ensures files { W.files result.world ≡ W.files world }
     ensures unfinished { IfSome result.failure (λ failure. failure ≢ failures.Report
         → LeavesMarked name.now (W.kept world) (W.kept result.world)) }
     ensures shown { result.failure ≡ None
-        → AllShown O.shown O.contents M.shown M.contents W.kept W.files out.new messages.new result.world }
-    ensures shown_output { (base : ℕ) → Grew base (O.failures out.old)
-        → IsShownSince base (O.shown out.new) (O.contents out.new) (O.failures out.new) }
-    ensures shown_messages { (base : ℕ) → Grew base (M.failures messages.old)
-        → IsShownSince base (M.shown messages.new) (M.contents messages.new) (M.failures messages.new) }
+        → IsShown O.shown O.contents out.new × IsShown M.shown M.contents messages.new
+        × IsShown W.kept W.files result.world }
+    ensures shown_output { StaysShown O.failures O.shown O.contents out.old out.new }
+    ensures shown_messages { StaysShown M.failures M.shown M.contents messages.old messages.new }
 {
     let cause = match put_unopened(file, messages) {
         Ok(()) => Cause::Done,
@@ -193,16 +187,16 @@ pub fn close_mode<W: World, O: Shows, M: Shows>(
 ) -> Followed<W>
     ensures closes { ModeCloses status result.status (O.contents out.old) (O.contents out.new)
         (M.contents messages.old) (M.contents messages.new) (M.failures messages.old) (M.failures messages.new)
-        (counts_of O.failures M.failures W.failures out.old out.new messages.old messages.new world result.world) }
-    ensures counted { FailedAs result.failure (counts_of O.failures M.failures W.failures
-        out.old out.new messages.old messages.new world result.world) }
+        (counts_of (change O.failures out.old out.new) (change M.failures messages.old messages.new)
+        (change W.failures world result.world)) }
+    ensures counted { FailedAs result.failure (counts_of (change O.failures out.old out.new)
+        (change M.failures messages.old messages.new) (change W.failures world result.world)) }
     ensures files { W.files result.world ≡ W.files world }
     ensures shown { result.failure ≡ None
-        → AllShown O.shown O.contents M.shown M.contents W.kept W.files out.new messages.new result.world }
-    ensures shown_output { (base : ℕ) → Grew base (O.failures out.old)
-        → IsShownSince base (O.shown out.new) (O.contents out.new) (O.failures out.new) }
-    ensures shown_messages { (base : ℕ) → Grew base (M.failures messages.old)
-        → IsShownSince base (M.shown messages.new) (M.contents messages.new) (M.failures messages.new) }
+        → IsShown O.shown O.contents out.new × IsShown M.shown M.contents messages.new
+        × IsShown W.kept W.files result.world }
+    ensures shown_output { StaysShown O.failures O.shown O.contents out.old out.new }
+    ensures shown_messages { StaysShown M.failures M.shown M.contents messages.old messages.new }
 {
     let ending = Ending {
         status,

@@ -9,6 +9,7 @@ ghost use Rattle.m4_engine.specs.Run.{run as defined};
 ghost use Rattle.m4_engine.specs.Start.{start_of};
 ghost use Rattle.m4_engine.specs.Carries.{frozen_state};
 ghost use Rattle.m4_state.specs.State.{IsSized};
+ghost use Rattle.m4_engine.specs.Writers.{change};
 ghost use Rattle.m4_tool.specs.World.{Files};
 ghost use Rattle.m4_tool.specs.Line.{freeze_name, request_of, words_of};
 ghost use Rattle.m4_tool.specs.FailureCounts.{counts_of};
@@ -53,7 +54,8 @@ pub fn run_line<W: World, O: Shows, M: Shows>(
         → Knows W.making W.files W.input world files input → DescribesFrozen W.Reader.script frozen.old script
         → ExtendFiles files input (words_of (request_of line.now).names) ss
         → RanBy (freeze_name (request_of line.now)) (defined line.now.options script ss) result.ending
-        (seen O.contents M.contents M.failures W.files out.old out.new messages.old messages.new world result.world) }
+        (seen (change O.contents out.old out.new) (change M.contents messages.old messages.new)
+        (change M.failures messages.old messages.new) (change W.files world result.world)) }
     ensures sized { (files : Files) (input : Script) (script : Option Script) (ss : List Said)
         → Knows W.making W.files W.input world files input → DescribesFrozen W.Reader.script frozen.old script
         → ExtendFiles files input (words_of (request_of line.now).names) ss
@@ -62,8 +64,8 @@ pub fn run_line<W: World, O: Shows, M: Shows>(
     ensures unfinished { LeavesMarked (freeze_name (request_of line.now)) (W.kept world) (W.kept result.world) }
     ensures read { (files : Files) (input : Script) → Knows W.making W.files W.input world files input
         → result.ending.cause ≡ Cause.Read → AnyFails files input (words_of (request_of line.now).names) }
-    ensures counted { RanCounts result.ending.cause (counts_of O.failures M.failures W.failures
-        out.old out.new messages.old messages.new world result.world) }
+    ensures counted { RanCounts result.ending.cause (counts_of (change O.failures out.old out.new)
+        (change M.failures messages.old messages.new) (change W.failures world result.world)) }
 {
     let mut world = world;
     let Ok(mut sources) = sources_of(alloc, &mut world, line.files.as_slice()) else {
@@ -129,7 +131,8 @@ fn run_late<W: World, K: LateStart, O: Shows, M: Shows>(
         → map (named_of W.Reader.script) sources.old ≡ named_in files input names
         → DescribesFrozen W.Reader.script frozen.old script → ExtendFiles files input names ss
         → RanBy K.name (defined options script ss) result.ending
-        (seen O.contents M.contents M.failures W.files out.old out.new messages.old messages.new world result.world) }
+        (seen (change O.contents out.old out.new) (change M.contents messages.old messages.new)
+        (change M.failures messages.old messages.new) (change W.files world result.world)) }
     ensures sized { (files : Files) (input : Script) (names : List (List ℕ)) (script : Option Script) (ss : List Said)
         → map (named_of W.Reader.script) sources.old ≡ named_in files input names
         → DescribesFrozen W.Reader.script frozen.old script → ExtendFiles files input names ss
@@ -139,8 +142,8 @@ fn run_late<W: World, K: LateStart, O: Shows, M: Shows>(
     ensures read { (files : Files) (input : Script) (names : List (List ℕ))
         → map (named_of W.Reader.script) sources.old ≡ named_in files input names
         → result.ending.cause ≡ Cause.Read → AnyFails files input names }
-    ensures counted { RanCounts result.ending.cause (counts_of O.failures M.failures W.failures
-        out.old out.new messages.old messages.new world result.world) }
+    ensures counted { RanCounts result.ending.cause (counts_of (change O.failures out.old out.new)
+        (change M.failures messages.old messages.new) (change W.failures world result.world)) }
 {
     let mut late: LateFile<W, K> = LateFile::over(world, name);
     let (ending, session) = run_keeping(alloc, options, frozen, sources, out, messages, &mut late);
