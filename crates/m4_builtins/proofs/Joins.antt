@@ -53,6 +53,13 @@ module _ (q : Delimiters) (separator out mid new text all : List ℕ) (rest : Li
       ∙ ap (λ (y : List ℕ). out ++ (separator ++ y)) (sym (joined_step separator this (map (quoted q) rest)))
       ∙ rejoined false is before
 
+-- texts between quotes that are empty
+pub between_none : (texts : List (List ℕ)) → map (quoted (record { begin = []; end = [] })) texts ≡ texts
+between_none [] = refl
+between_none (x ∷ texts) =
+    ap (λ (y : List ℕ). y ∷ map (quoted (record { begin = []; end = [] })) texts) (append-nil x)
+    ∙ ap (λ (ys : List (List ℕ)). x ∷ ys) (between_none texts)
+
 -- the number of digits after those whose number is n
 abbrev pub number_from : ℕ → List ℕ → ℕ
 number_from n digits = fold (λ m d. m * 10 + (d - digit_zero)) n digits

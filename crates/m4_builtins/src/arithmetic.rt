@@ -1,16 +1,13 @@
 //! The builtins that increment and decrement. Manual: "Decrement and increment operators".
 
-ghost use Rattle.std.specs.Prelude.{◌≡◌, OnOk, Some};
-ghost use Rattle.std.specs.Fmt.{signed_decimal};
-ghost use Rattle.m4_input.specs.declared.pushed.Pushed.TheVariants as pushes;
+ghost use Rattle.std.specs.Prelude.{◌≡◌, OnOk};
 ghost use Rattle.m4_builtins.specs.Acted.{nothing};
 ghost use Rattle.m4_builtins.specs.Arithmetic as spec;
 
-use crate::args::Arg;
+use crate::args::{Arg, text_at};
 use crate::effect_buffer::EffectBuffer;
-use crate::number::first_number;
+use crate::number::number_in;
 use crate::place::Place;
-use itoa::Buffer;
 use m4_state::builtin::Builtin;
 use std::alloc::AllocError;
 
@@ -20,8 +17,8 @@ pub(crate) fn incr(effect: &mut EffectBuffer, list: &[Arg], place: &Place) -> Re
     requires { effect.old ≡ nothing }
     ensures { OnOk result (effect.new ≡ spec.incr list.now place.now) }
 {
-    match first_number(effect, list, place, Builtin::Incr)? {
-        Some(number) => give_number(effect, number.wrapping_add(1)),
+    match number_in(effect, text_at(list, 0), place, Builtin::Incr)? {
+        Some(number) => effect.give_number(number.wrapping_add(1)),
         None => Ok(()),
     }
 }
@@ -32,17 +29,8 @@ pub(crate) fn decr(effect: &mut EffectBuffer, list: &[Arg], place: &Place) -> Re
     requires { effect.old ≡ nothing }
     ensures { OnOk result (effect.new ≡ spec.decr list.now place.now) }
 {
-    match first_number(effect, list, place, Builtin::Decr)? {
-        Some(number) => give_number(effect, number.wrapping_sub(1)),
+    match number_in(effect, text_at(list, 0), place, Builtin::Decr)? {
+        Some(number) => effect.give_number(number.wrapping_sub(1)),
         None => Ok(()),
     }
-}
-
-/// Expands to a number.
-fn give_number(effect: &mut EffectBuffer, number: i32) -> Result<(), AllocError>
-    ensures { OnOk result (effect.new
-        ≡ record effect.old { push = Some (pushes.Text (signed_decimal number)) }) }
-{
-    let mut buffer = Buffer::new();
-    effect.give_copy(buffer.format(number).as_bytes())
 }

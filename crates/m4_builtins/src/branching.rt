@@ -7,7 +7,7 @@ ghost use Rattle.m4_builtins.specs.Args.{texts_of};
 ghost use Rattle.m4_builtins.specs.EffectView.{text_of_any};
 ghost use Rattle.m4_builtins.specs.Branching as spec;
 
-use crate::args::{Arg, argument_at, text_at, text_of};
+use crate::args::{Arg, text_at, text_of};
 use crate::effect_buffer::EffectBuffer;
 use crate::messages::Warning;
 use crate::place::Place;
@@ -19,6 +19,7 @@ use std::alloc::AllocError;
 
 /// Expands to the second argument if the first has a definition, otherwise to the third. Manual:
 /// "Testing if a macro is defined".
+#[tactic(auto, using(crate::proofs::Joins::any_at))]
 pub(crate) fn ifdef(
     effect: &mut EffectBuffer,
     list: &[Arg],
@@ -28,8 +29,8 @@ pub(crate) fn ifdef(
     ensures { OnOk result (effect.new ≡ spec.ifdef list.now state.now) }
 {
     let chosen = match state.top(text_at(list, 0)) {
-        Some(_) => argument_at(list, 1),
-        None => argument_at(list, 2),
+        Some(_) => list.get(1),
+        None => list.get(2),
     };
     effect.give_argument(chosen)
 }

@@ -8,12 +8,11 @@ ghost use Rattle.m4_builtins.specs.Diverting as spec;
 ghost use Rattle.m4_builtins.specs.Numeric.{number_of_reading, reading_warning};
 ghost use Rattle.m4_builtins.specs.Warned.{with_messages};
 
-use crate::args::{Arg, text_of};
+use crate::args::{Arg, text_at, text_of};
 use crate::effect_buffer::EffectBuffer;
 use crate::fault::BuiltinFault;
-use crate::number::{first_number, number_in};
+use crate::number::number_in;
 use crate::place::Place;
-use itoa::Buffer;
 use m4_state::builtin::Builtin;
 use m4_state::state::State;
 use std::alloc::{AllocError, Global};
@@ -34,7 +33,7 @@ pub(crate) fn divert(
         state.divert(0);
         return Ok(());
     }
-    if let Some(number) = first_number(effect, list, place, Builtin::Divert)? {
+    if let Some(number) = number_in(effect, text_at(list, 0), place, Builtin::Divert)? {
         state.divert(number);
     }
     Ok(())
@@ -69,8 +68,7 @@ pub(crate) fn divnum(effect: &mut EffectBuffer, state: &State) -> Result<(), All
     requires { effect.old ≡ nothing }
     ensures { OnOk result (effect.new ≡ spec.divnum state.now) }
 {
-    let mut buffer = Buffer::new();
-    effect.give_copy(buffer.format(state.current()).as_bytes())
+    effect.give_number(state.current())
 }
 
 /// Returns the numbers of the diversions that contain text, in rising order.

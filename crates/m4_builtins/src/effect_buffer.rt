@@ -13,6 +13,7 @@ use crate::fault::BuiltinFault;
 use crate::messages::{Warning, push_warning_line};
 use crate::place::Place;
 use crate::substitute::{plain_len, substitute_onto};
+use itoa::{Buffer, Integer};
 use m4_input::pushed::Pushed;
 use m4_state::bytes::{Bytes, SHORT};
 use m4_state::definition::Def;
@@ -118,13 +119,14 @@ impl EffectBuffer {
     }
 
     /// Returns the effect as a record of its own.
-    pub(crate) fn into_effect(self) -> Effect
+    pub(crate) fn into_effect(mut self) -> Effect
         ensures effect { result ≡ self }
         ensures valid { IsPushed result.push }
     {
+        let push = self.take_push();
         let EffectBuffer {
-            push,
-            mut buffer,
+            push: _push,
+            buffer: _buffer,
             has_more: _has_more,
             messages,
             output,
@@ -132,11 +134,6 @@ impl EffectBuffer {
             skip,
             exit,
         } = self;
-        let push = match push {
-            Push::Buffer { is_made: false } => None,
-            Push::Buffer { is_made: true } => Some(Pushed::Text(Bytes::take_from(&mut buffer))),
-            Push::Value(value) => Some(value),
-        };
         Effect {
             push,
             messages: Bytes::from(messages),
@@ -285,10 +282,18 @@ impl EffectBuffer {
     pub(crate) fn give_copy(&mut self, text: &[u8]) -> Result<(), AllocError>
         ensures { OnOk result (self.new ≡ record self.old { push = Some (pushes.Text text.now) }) }
     {
-        self.buffer.clear();
-        self.buffer.append(text)?;
         self.push.set_made(true);
-        Ok(())
+        self.buffer.clear();
+        self.buffer.append(text)
+    }
+
+    /// Inserts an integer in decimal before the input.
+    #[inline(always)]
+    pub(crate) fn give_number<I: Integer>(&mut self, number: I) -> Result<(), AllocError>
+        ensures { OnOk result (self.new ≡ record self.old { push = Some (pushes.Text (I.text number)) }) }
+    {
+        let mut buffer = Buffer::new();
+        self.give_copy(buffer.format(number).as_bytes())
     }
 
     /// Inserts a text before the input, shared if others may share it. So few bytes that no slice has them are copied

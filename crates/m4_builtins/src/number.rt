@@ -2,15 +2,12 @@
 //! Manual: "Macro arguments", and the sections of the builtins that take numbers.
 
 ghost use Rattle.std.specs.Prelude.{◌≡◌, ◌++◌, OnOk, IfOk};
-ghost use Rattle.m4_builtins.specs.Acted.{nothing, only_warning};
-ghost use Rattle.m4_builtins.specs.Args.{text_at};
 ghost use Rattle.m4_builtins.specs.Numeric as spec;
 
-use crate::args::{Arg, text_at};
 use crate::effect_buffer::EffectBuffer;
 use crate::messages::Warning;
 use crate::place::Place;
-use crate::substitute::{digits_len, number_of};
+use crate::substitute::number_at;
 use m4_eval::blank::spaces_len;
 use m4_state::builtin::Builtin;
 use std::alloc::AllocError;
@@ -38,22 +35,6 @@ pub(crate) fn reading_of(text: &[u8]) -> Reading
         [] => Reading::Empty,
         [..] => read_signed(text.split_at(spaces_len(text)).1),
     }
-}
-
-/// Returns the number of the first argument, if it has one. Adds the warning on it to the messages.
-#[inline(always)]
-pub(crate) fn first_number(
-    effect: &mut EffectBuffer,
-    list: &[Arg],
-    place: &Place,
-    builtin: Builtin,
-) -> Result<Option<i32>, AllocError>
-    requires { effect.old ≡ nothing }
-    ensures number { IfOk result (λ n. n ≡ spec.number_of_reading (spec.reading_of (text_at list.now 0))) }
-    ensures warns { OnOk result (effect.new
-        ≡ only_warning (spec.reading_warning place.now builtin (spec.reading_of (text_at list.now 0)))) }
-{
-    number_in(effect, text_at(list, 0), place, builtin)
 }
 
 /// Returns the number of an argument, if it has one. Adds the warning on it to the messages.
@@ -96,20 +77,14 @@ fn read_signed(text: &[u8]) -> Reading
 fn read_digits(negative: bool, digits: &[u8]) -> Reading
     ensures { result ≡ spec.read_digits negative digits.now }
 {
-    if !are_digits(digits) {
+    let (len, number) = number_at(digits);
+    if len == 0 || len < digits.len() {
         return Reading::NotNumeric;
     }
-    match number_of(digits) {
+    match number {
         Some(n) => if_it_fits(negative, n),
         None => Reading::NotNumeric,
     }
-}
-
-/// Returns whether these are only digits, and at least one.
-fn are_digits(bytes: &[u8]) -> bool
-    ensures { result ≡ spec.are_digits bytes.now }
-{
-    !bytes.is_empty() && digits_len(bytes) == bytes.len()
 }
 
 /// Returns a number after a sign, if it has 32 bits.

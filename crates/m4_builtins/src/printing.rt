@@ -14,7 +14,6 @@ use crate::fault::BuiltinFault;
 use crate::messages::Warning;
 use crate::place::Place;
 use crate::substitute::{push_joined, push_one_quoted};
-use itoa::Buffer;
 use m4_state::bytes::Bytes;
 use m4_state::definition::Def;
 use m4_state::state::State;
@@ -187,6 +186,5 @@ pub(crate) fn line(effect: &mut EffectBuffer, place: &Place) -> Result<(), Alloc
     requires { effect.old ≡ nothing }
     ensures { OnOk result (effect.new ≡ spec.line place.now) }
 {
-    let mut buffer = Buffer::new();
-    effect.give_copy(buffer.format(place.line).as_bytes())
+    effect.give_number(place.line)
 }

@@ -1,7 +1,7 @@
 //! Substitution: replaces `$0`, `$1`, `$#`, `$*` and `$@` in a text by a call's name and arguments.
 
 ghost use Rattle.std.specs.Prelude.{◌≡◌, ◌==◌, ◌≤◌, ◌^◌, [], ◌∷◌, ◌++◌, IfOk, OnOk, ℕ, ◌+◌, ◌<◌, length, map, not};
-ghost use Rattle.std.specs.Prelude.{decimal, take, drop, IfSome, true, List};
+ghost use Rattle.std.specs.Prelude.{decimal, take, true, List};
 ghost use Rattle.m4_state.specs.declared.delimiters.Delimiters.{Delimiters};
 ghost use Rattle.m4_input.specs.Ascii.{dollar, is_digit};
 ghost use Rattle.m4_input.specs.Token.{run_length};
@@ -10,7 +10,7 @@ ghost use Rattle.m4_builtins.specs.Args.{text_of_arg, texts_of, joined_by, quote
 ghost use Rattle.m4_builtins.specs.Subst.{subst, after_dollar, number_of, nth_text, all_quoted};
 ghost use Rattle.m4_builtins.specs.Numbers.{IsNumber};
 
-use crate::args::{Arg, Args, text_of};
+use crate::args::{Arg, Args};
 use crate::fault::BuiltinFault;
 use itoa::Buffer;
 use m4_state::bytes::Bytes;
@@ -192,41 +192,22 @@ fn push_dollar(
 
 /// Returns how many digits are at the start, and the number that they spell; most often there is one.
 #[inline(always)]
-fn number_at(bytes: &[u8]) -> (usize, Option<usize>)
+pub(crate) fn number_at(bytes: &[u8]) -> (usize, Option<usize>)
     ensures len { result.0 ≡ run_length is_digit bytes.now }
     ensures within { result.0 ≤ length bytes.now }
     ensures number { IsNumber result.1 (number_of (take result.0 bytes.now)) }
 {
-    match only_digit(bytes) {
-        Some(digit) => (1, Some(digit)),
-        None => {
-            let len = digits_len(bytes);
-            (len, number_of(bytes.split_at(len).0))
+    if let [digit @ b'0'..=b'9', rest @ ..] = bytes {
+        if !matches!(rest, [b'0'..=b'9', ..]) {
+            return (1, Some(usize::from(*digit - b'0')));
         }
     }
-}
-
-/// Returns the digit at the start if no other one follows it.
-#[inline(always)]
-fn only_digit(bytes: &[u8]) -> Option<usize>
-    ensures len { IfSome result (λ n. run_length is_digit bytes.now ≡ 1) }
-    ensures within { IfSome result (λ n. 1 ≤ length bytes.now) }
-    ensures number { IfSome result (λ n. number_of (take 1 bytes.now) ≡ n) }
-{
-    let (first, rest) = bytes.split_first()?;
-    if !first.is_ascii_digit() {
-        return None;
-    }
-    if let Some(next) = rest.first() {
-        if next.is_ascii_digit() {
-            return None;
-        }
-    }
-    Some(usize::from(*first - b'0'))
+    let len = digits_len(bytes);
+    (len, number_of(bytes.split_at(len).0))
 }
 
 /// Counts the digits at the start.
-pub(crate) fn digits_len(bytes: &[u8]) -> usize
+fn digits_len(bytes: &[u8]) -> usize
     ensures value { result ≡ run_length is_digit bytes.now }
     ensures within { result ≤ length bytes.now }
 {
@@ -238,7 +219,7 @@ pub(crate) fn digits_len(bytes: &[u8]) -> usize
 }
 
 /// Returns the number that these digits spell; none if it is greater than every count.
-pub(crate) fn number_of(digits: &[u8]) -> Option<usize>
+fn number_of(digits: &[u8]) -> Option<usize>
     ensures { IsNumber result (number_of digits.now) }
 {
     let mut value = 0usize;
@@ -293,7 +274,7 @@ fn push_count(out: &mut TextBuffer, count: usize) -> Result<(), AllocError>
 /// Appends the arguments, with a separator between any two of them. Not inlined, so that a text with other dollars does
 /// not prepare its loop.
 #[inline(never)]
-#[tactic(auto, using(crate::proofs::Joins::joined_step))]
+#[tactic(auto, using(crate::proofs::Joins::between_none))]
 pub(crate) fn push_joined(
     out: &mut TextBuffer,
     args: &[Arg],
@@ -301,19 +282,10 @@ pub(crate) fn push_joined(
 ) -> Result<(), AllocError>
     ensures { OnOk result (out.new ≡ out.old ++ joined_by (separator ∷ []) (texts_of args.now)) }
 {
-    let mut first = true;
-    for arg in args {
-        if !first {
-            out.push(separator)?;
-        }
-        push_argument(out, arg)?;
-        first = false;
-    }
-    Ok(())
+    push_list(out, args, separator, (&[], &[]))
 }
 
-/// Appends the arguments, each between quotes, with a comma between any two of them. Most quotes have one byte. Not
-/// inlined, as above.
+/// Appends the arguments, each between quotes, with a comma between any two of them. Not inlined, as above.
 #[inline(never)]
 pub(crate) fn push_quoted(
     out: &mut TextBuffer,
@@ -324,62 +296,33 @@ pub(crate) fn push_quoted(
         (map text_of_arg args.now)) }
 {
     match quotes {
-        ([begin], [end]) => push_all_between(out, args, *begin, *end),
-        _ => push_each_quoted(out, args, quotes),
+        // As most quotes are: the loop tests no lengths.
+        ([begin], [end]) => push_list(out, args, b',', (&[*begin], &[*end])),
+        _ => push_list(out, args, b',', quotes),
     }
 }
 
-/// Appends the arguments, each between quotes of one byte.
-#[inline(never)]
-#[tactic(auto, using(crate::proofs::Joins::joined_step))]
-fn push_all_between(
-    out: &mut TextBuffer,
-    args: &[Arg],
-    begin: u8,
-    end: u8,
-) -> Result<(), AllocError>
-    ensures { OnOk result (out.new ≡ out.old
-        ++ all_quoted (record { begin = begin ∷ []; end = end ∷ [] }) (map text_of_arg args.now)) }
-{
-    let mut first = true;
-    for arg in args {
-        if !first {
-            out.push(b',')?;
-        }
-        push_between(out, arg, begin, end)?;
-        first = false;
-    }
-    Ok(())
-}
-
-/// Appends an argument between quotes of one byte each.
+/// Appends the arguments, each between quotes, with a separator between any two of them. Inlined, so that arguments
+/// without quotes take no tests of them.
 #[inline(always)]
-fn push_between(out: &mut TextBuffer, arg: &Arg, begin: u8, end: u8) -> Result<(), AllocError>
-    ensures { OnOk result (out.new ≡ out.old
-        ++ quoted (record { begin = begin ∷ []; end = end ∷ [] }) (text_of_arg arg.now)) }
-{
-    out.push(begin)?;
-    push_argument(out, arg)?;
-    out.push(end)
-}
-
-/// Appends the arguments, each between any quotes.
-#[inline(never)]
 #[tactic(auto, using(crate::proofs::Joins::joined_step))]
-fn push_each_quoted(
+fn push_list(
     out: &mut TextBuffer,
     args: &[Arg],
+    separator: u8,
     quotes: (&[u8], &[u8]),
 ) -> Result<(), AllocError>
-    ensures { OnOk result (out.new ≡ out.old ++ all_quoted (pair_of quotes.entry)
-        (map text_of_arg args.now)) }
+    ensures { OnOk result (out.new ≡ out.old
+        ++ joined_by (separator ∷ []) (map (quoted (pair_of quotes.entry)) (texts_of args.now))) }
 {
     let mut first = true;
     for arg in args {
         if !first {
-            out.push(b',')?;
+            out.push(separator)?;
         }
-        push_one_quoted(out, text_of(arg), quotes)?;
+        out.append(quotes.0)?;
+        push_argument(out, arg)?;
+        out.append(quotes.1)?;
         first = false;
     }
     Ok(())

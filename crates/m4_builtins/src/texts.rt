@@ -1,8 +1,7 @@
 //! The builtins that measure texts, search them and cut them. Manual: "Calculating length of strings",
 //! "Searching for substrings", "Extracting substrings".
 
-ghost use Rattle.std.specs.Prelude.{◌≡◌, OnOk, Some, decimal};
-ghost use Rattle.m4_input.specs.declared.pushed.Pushed.TheVariants as pushes;
+ghost use Rattle.std.specs.Prelude.{◌≡◌, OnOk};
 ghost use Rattle.m4_builtins.specs.Acted.{nothing};
 ghost use Rattle.m4_builtins.specs.Texts as spec;
 
@@ -10,7 +9,6 @@ use crate::args::{Arg, text_at, text_of};
 use crate::effect_buffer::EffectBuffer;
 use crate::number::number_in;
 use crate::place::Place;
-use itoa::Buffer;
 use m4_state::builtin::Builtin;
 use memchr::memmem;
 use std::alloc::AllocError;
@@ -20,7 +18,7 @@ pub(crate) fn len(effect: &mut EffectBuffer, list: &[Arg]) -> Result<(), AllocEr
     requires { effect.old ≡ nothing }
     ensures { OnOk result (effect.new ≡ spec.len list.now) }
 {
-    give_count(effect, text_at(list, 0).len())
+    effect.give_number(text_at(list, 0).len())
 }
 
 /// Expands to the first place of the second argument in the first one, from 0; to -1 if there is none.
@@ -29,8 +27,8 @@ pub(crate) fn index(effect: &mut EffectBuffer, list: &[Arg]) -> Result<(), Alloc
     requires { effect.old ≡ nothing }
     ensures { OnOk result (effect.new ≡ spec.index list.now) }
 {
-    match place_in(text_at(list, 0), text_at(list, 1)) {
-        Some(place) => give_count(effect, place),
+    match memmem::find(text_at(list, 0), text_at(list, 1)) {
+        Some(place) => effect.give_number(place),
         None => effect.give_copy(b"-1"),
     }
 }
@@ -80,20 +78,4 @@ fn at_most(text: &[u8], count: i32) -> &[u8]
         Ok(count) => text.get(..count).unwrap_or(text),
         Err(_negative) => &[],
     }
-}
-
-/// Returns the first place at which a text contains a part, from 0.
-fn place_in(text: &[u8], part: &[u8]) -> Option<usize>
-    ensures { result ≡ spec.place_in text.now part.now }
-{
-    memmem::find(text, part)
-}
-
-/// Expands to a count in decimal.
-fn give_count(effect: &mut EffectBuffer, count: usize) -> Result<(), AllocError>
-    requires { effect.old ≡ nothing }
-    ensures { OnOk result (effect.new ≡ record nothing { push = Some (pushes.Text (decimal count)) }) }
-{
-    let mut buffer = Buffer::new();
-    effect.give_copy(buffer.format(count).as_bytes())
 }

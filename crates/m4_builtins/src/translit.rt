@@ -63,30 +63,11 @@ fn ranges(alloc: Global, text: &[u8]) -> Result<Vec<u8>, AllocError>
 fn push_run(out: &mut Vec<u8>, from: u8, to: u8) -> Result<(), AllocError>
     ensures { OnOk result (out.new.items ≡ out.old.items ++ spec.bytes_between from to) }
 {
-    if from < to {
-        push_rising(out, from, to)
-    } else {
-        push_falling(out, from, to)
-    }
-}
-
-/// Appends the bytes above one, up to another.
-fn push_rising(out: &mut Vec<u8>, from: u8, to: u8) -> Result<(), AllocError>
-    ensures { OnOk result (out.new.items ≡ out.old.items ++ spec.rising (to - from) (from + 1)) }
-{
     let mut byte = from;
     while byte < to {
         byte += 1;
         out.push(byte)?;
     }
-    Ok(())
-}
-
-/// Appends the bytes below one, down to another.
-fn push_falling(out: &mut Vec<u8>, from: u8, to: u8) -> Result<(), AllocError>
-    ensures { OnOk result (out.new.items ≡ out.old.items ++ spec.falling (from - to) (from - 1)) }
-{
-    let mut byte = from;
     while byte > to {
         byte -= 1;
         out.push(byte)?;

@@ -18,7 +18,7 @@ returns-in-Some c =
     let r = reading_of (text_at c.args.list.now 0) in
     let text = λ (n : ℤ). signed_decimal (int_wrapping_add w32 n (pos 1)) in
     let read : Some c.in-Some.number ≡ number_of_reading r = search rules in
-    let warned : c.first_number.new.effect ≡ only_warning (reading_warning p Incr r) = search rules in
+    let warned : c.number_in.new.effect ≡ only_warning (reading_warning p Incr r) = search rules in
     IfOk-weaker c.give_number.result _ _
     (λ done made. made ∙ ap (λ (e : Effect). record e { push = Some (pushes.Text (text c.in-Some.number)) }) warned
     ∙ sym (with_number-expands p Incr text r c.in-Some.number (reading_warning p Incr r) read refl))

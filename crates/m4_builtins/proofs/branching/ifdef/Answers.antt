@@ -1,5 +1,0 @@
-use Rattle.std.proofs.Common.{rules}
-use Rattle.m4_builtins.proofs.branching.ifdef.Goals as goal
-
-pub returns : goal.returns
-returns c = search rules
