@@ -1,11 +1,12 @@
-//! Appends bytes to a vector, and puts them before a place. Most texts of a macro are short, and a call that copies
-//! takes longer than a few bytes do.
+//! Appends bytes to a vector, and puts them before a place. Many of these texts are short, and a call that copies takes
+//! longer than a few bytes do.
 
 ghost use Rattle.std.specs.Prelude.{◌≡◌, ◌≤◌, ◌+◌, ◌++◌, ◌-◌, OnOk, OnErr, length, take, drop, vec_len, vec_capacity};
 
 use std::alloc::AllocError;
 
-/// Appends a text. One of a byte or two, as most quotes and many arguments are, takes no call that copies.
+/// Appends a text. What is outside of calls goes to the output by this. One of a byte or two, as between most calls,
+/// takes no call that copies.
 #[inline(always)]
 pub fn append(out: &mut Vec<u8>, text: &[u8]) -> Result<(), AllocError>
     ensures ok { OnOk result (out.new.items ≡ out.old.items ++ text.now) }

@@ -7,7 +7,7 @@ ghost use Rattle.std.specs.Simd.Lanes.{mask_l};
 
 use std::simd::prelude::*;
 
-/// The number of bytes that are searched at once.
+/// How many bytes are searched or copied at once: those of a register of the processor.
 pub const LANES: usize = 16;
 
 /// Returns the first lane that is marked, or 16 if none is.

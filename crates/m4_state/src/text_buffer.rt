@@ -6,11 +6,9 @@ ghost use Rattle.std.specs.Prelude.{◌≡◌, ◌==◌, ◌<◌, ◌≤◌, ◌
 ghost use Rattle.std.specs.Prelude.{OnOk, OnErr, IfSome};
 
 use crate::bytes::{Bytes, SHORT};
+use crate::lanes::LANES;
 use std::alloc::{AllocError, Global};
 use std::marker::Model;
-
-/// How many bytes are copied at once: those of a register of the processor.
-const PIECE: usize = 16;
 
 /// The room that is added behind the end of a text, in bytes: enough for a piece, and for a short text.
 const ADDED: usize = 64;
@@ -46,11 +44,11 @@ fn write_piece(room: &mut [u8], at: usize, text: &[u8]) -> bool
     ensures left { result ≡ false → room.new ≡ room.old }
     ensures len { length room.new ≡ length room.old }
 {
-    let Some(piece) = text.first_chunk::<PIECE>() else {
+    let Some(piece) = text.first_chunk::<LANES>() else {
         return false;
     };
     let (_, rest) = room.split_at_mut(at);
-    let Some(place) = rest.first_chunk_mut::<PIECE>() else {
+    let Some(place) = rest.first_chunk_mut::<LANES>() else {
         return false;
     };
     *place = *piece;
@@ -153,7 +151,7 @@ impl TextBuffer {
         ensures ok { OnOk result (self.new ≡ self.old ++ take len text.now) }
         ensures err { OnErr result (self.new ≡ self.old) }
     {
-        if len <= PIECE && write_piece(&mut self.room, self.len, text) {
+        if len <= LANES && write_piece(&mut self.room, self.len, text) {
             self.len += len;
             return Ok(());
         }
@@ -169,7 +167,7 @@ impl TextBuffer {
         ensures err { OnErr result (self.new ≡ self.old) }
     {
         let front = text.split_at(len).0;
-        if self.room.len() - self.len < len.saturating_add(PIECE) {
+        if self.room.len() - self.len < len.saturating_add(LANES) {
             return self.append_beyond(front);
         }
         write(&mut self.room, self.len, front);
