@@ -1,50 +1,53 @@
 //! Runs that start from a frozen file, and runs that freeze their state.
 
 use super::given::{AMPLE, BLOCKS, DONE, End};
-use super::report::{add_run, add_seen, joined};
+use super::report::{add_pieces, add_seen};
 use super::rows::Given::File;
 use super::rows::{FREEZING, Given, QUIET, Row, Start, compare, frozen_after, run_row, seen_of};
-use super::shows::agrees_by;
-use super::whole_texts::{BEGIN, END};
+use super::shows::{agrees_by, shows_by};
+use super::whole_texts::Part::{First, Last, Text};
 use m4_engine::ending::Cause;
 use m4_frozen::fault::{FrozenFault, FrozenKind};
-use part_tests::report::Report;
+use part_tests::report::{Report, printed};
 use std::alloc::{AllocError, Global};
 use std::process::Abort;
-use std::test::Fail;
 
 // Frozen files and files, and the text that is frozen again.
-static LOADED: [Row; 12] = rows! {
+static LOADED: [Row; 7] = rows! {
     "a frozen file without names", "define(`a',`b')a\n" => "define(a,b)a\n",
-        start: Start::Frozen("V1\n"), frozen_text: Some(&[BEGIN, END]);
+        start: Start::Frozen("V1\n"), frozen_text: Some(&[First, Last]);
     "text that is issued", "" => "hi\n", start: Start::Frozen("V1\nD0,3\nhi\n\n"),
-        frozen_text: Some(&[BEGIN, END]);
+        frozen_text: Some(&[First, Last]);
     "blanks and zeros before numbers", "a\n" => "b\n", start: Start::Frozen("V1\nT1 , 01\nab\n"),
-        frozen_text: Some(&[BEGIN, "T1,1\nab\n", END]);
+        frozen_text: Some(&[First, Text("T1,1\nab\n"), Last]);
     "a name that is defined since", "a define(`c',`d$1')a\n" => "b b\n",
         start: Start::Frozen("V1\nF6,6\ndefinedefine\nT1,1\nab\n"),
-        frozen_text: Some(&[BEGIN, "T1,1\nab\nT1,3\ncd$1\nF6,6\ndefinedefine\n", END]);
+        frozen_text: Some(&[First, Text("T1,1\nab\nT1,3\ncd$1\nF6,6\ndefinedefine\n"), Last]);
     "text joins a diversion that is frozen again", "more\n" => "",
         start: Start::Frozen("V1\nD2,4\ntwo\n\n"),
-        frozen_text: Some(&[BEGIN, "D2,9\ntwo\nmore\n\n", END]);
+        frozen_text: Some(&[First, Text("D2,9\ntwo\nmore\n\n"), Last]);
     "a negative number stays current", "x\n" => "", start: Start::Frozen("V1\nD-1,0\n\n"),
-        frozen_text: Some(&[BEGIN, "D-1,0\n\n", END]);
+        frozen_text: Some(&[First, Text("D-1,0\n\n"), Last]);
     "a number without text stays current", "" => "", start: Start::Frozen("V1\nD3,0\n\n"),
-        frozen_text: Some(&[BEGIN, "D3,0\n\n", END]);
+        frozen_text: Some(&[First, Text("D3,0\n\n"), Last]);
+};
+
+// The same with builtins, and with a file that breaks off.
+static LOADED_BUILTINS: [Row; 5] = rows! {
     "a builtin of another m4", "regexp(`a',`b')!\n" => "!\n",
         start: Start::Frozen("V1\nF6,6\nregexpregexp\n"),
         messages: "m4:b.m4:1: Warning: builtin `regexp' requested by frozen file is not supported\n",
-        frozen_text: Some(&[BEGIN, "F6,6\nregexpregexp\n", END]);
+        frozen_text: Some(&[First, Text("F6,6\nregexpregexp\n"), Last]);
     "its name without a list", "regexp!\n" => "!\n",
         start: Start::Frozen("V1\nF6,6\nregexpregexp\n"),
         messages: "m4:b.m4:1: Warning: builtin `regexp' requested by frozen file is not supported\n",
-        frozen_text: Some(&[BEGIN, "F6,6\nregexpregexp\n", END]);
+        frozen_text: Some(&[First, Text("F6,6\nregexpregexp\n"), Last]);
     "a builtin that an older table lacked", "eval(`1+1')\n" => "2\n",
         start: Start::Frozen("V1\nF4,4\nevaleval\n"),
-        frozen_text: Some(&[BEGIN, "F4,4\nevaleval\n", END]);
+        frozen_text: Some(&[First, Text("F4,4\nevaleval\n"), Last]);
     "its name without parameters", "eval\n" => "eval\n",
         start: Start::Frozen("V1\nF4,4\nevaleval\n"),
-        frozen_text: Some(&[BEGIN, "F4,4\nevaleval\n", END]);
+        frozen_text: Some(&[First, Text("F4,4\nevaleval\n"), Last]);
     "a string without an end, after text that is issued", "x\n`abc" => "hi\nx\n",
         start: Start::Frozen("V1\nD0,3\nhi\n\n"),
         messages: "m4:b.m4:2: ERROR: end of input in string\n", end: (1, Cause::EndInString, false),
@@ -83,18 +86,27 @@ static REFUSED: [Row; 8] = refused! {
 #[test]
 fn frozen_files_are_loaded(rt: HostRuntime) {
     compare(&rt, &LOADED);
+    compare(&rt, &LOADED_BUILTINS);
+}
+
+// Reports how many bytes a row reads of its first source.
+fn taken_of(alloc: Global, row: &Row, block: usize) -> Result<Vec<u8>, AllocError> {
+    printed(alloc, &seen_of(alloc, row, block)?.taken)
+}
+
+// Compares what each row leaves, and then that it reads no byte of its first source.
+fn compare_untaken(rt: &(impl Abort + Alloc<A = Global>), rows: &[Row]) {
+    compare(rt, rows);
+    for row in rows {
+        for block in BLOCKS {
+            shows_by(rt, row.name, block, b"0", taken_of(rt.alloc(), row, block));
+        }
+    }
 }
 
 #[test]
-fn refused_frozen_files_leave_nothing_and_read_no_source(rt: HostRuntime) -> Result<(), Fail> {
-    compare(&rt, &REFUSED);
-    for row in &REFUSED {
-        for block in BLOCKS {
-            let seen = seen_of(rt.alloc(), row, block)?;
-            assert_eq!(rt; seen.taken, 0, "{}, read {block} bytes at a time", row.name);
-        }
-    }
-    Ok(())
+fn refused_frozen_files_leave_nothing_and_read_no_source(rt: HostRuntime) {
+    compare_untaken(&rt, &REFUSED);
 }
 
 // Sources, which runs read one after another, and what is written while each is read. Each run but the last freezes and
@@ -156,7 +168,7 @@ static CHAINS: [Chain; 2] = chains! {
         "n undivert(1)end`'errprint(`e')\n" => "1 2\nend\n"], messages: &["d", "2", "1", "e"];
 };
 
-static SPLITS: [Chain; 13] = chains! {
+static SPLITS: [Chain; 7] = chains! {
     "diversions", ["divert(2)two\ndivert(1)one\ndivert(2)dnl\n" => "", "more\n" => "one\ntwo\nmore\n"];
     "a negative number", ["divert(-1)junk\n" => "", "x divert(0)y\n" => "y\n"];
     "a number without text", ["divert(3)dnl\n" => "", "x\n" => "x\n"];
@@ -166,6 +178,10 @@ static SPLITS: [Chain; 13] = chains! {
     "a greeting", ["define(`hi',`Hello $1.')dnl\n" => "", "hi(`you')\n" => "Hello you.\n"];
     "delimiters", ["changequote([,])changecom(,)dnl\n" => "", "# [define]\n" => "# define\n"];
     "a name that two files do not join", ["define(`f',`<$#>')dnl\nf" => "<0>", "(1)\n" => "(1)\n"];
+};
+
+// The same for names and builtins.
+static NAMES: [Chain; 6] = chains! {
     "a name that is defined again",
         ["define(`b',`1')define(`a',`2')define(`c',`3')undefine(`a')define(`a',`4')dnl\n" => "",
         "a b c\n" => "4 1 3\n"];
@@ -251,31 +267,33 @@ fn seen_runs(
     report.text()
 }
 
+// Adds what the run of a chain over these sources has to leave.
+fn add_expected(chain: &Chain, from: usize, to: usize, report: &mut Report) {
+    let is_last = to == chain.files.len();
+    match chain.joint {
+        Some(output) if from == 0 && is_last => report.add(output.as_bytes()),
+        _ => add_pieces(report, between(chain.outputs, from, to)),
+    }
+    report.add(b"|");
+    add_pieces(report, between(chain.messages, from, to));
+    report.add(b"|");
+    let (status, cause, _) = if is_last { chain.end } else { DONE };
+    let saves = chain.joint.is_some();
+    let end: End = (status, cause, saves && from == 0);
+    report.print(&end);
+    if !is_last || (!saves && cause == Cause::Done) {
+        report.add(b"one frozen text\n");
+    } else if !saves {
+        report.add(b"no frozen text\n");
+    }
+}
+
 // Returns what the runs of a chain have to leave.
 fn expected_runs(alloc: Global, chain: &Chain, ends: &[usize]) -> Result<Vec<u8>, AllocError> {
-    let (status, cause, _) = chain.end;
-    let saves = chain.joint.is_some();
     let mut report = Report::new(alloc);
     let mut from = 0;
     for &to in ends {
-        let is_last = to == chain.files.len();
-        let output = match chain.joint {
-            Some(output) if from == 0 && is_last => Vec::from_slice(alloc, output.as_bytes())?,
-            _ => joined(alloc, between(chain.outputs, from, to))?,
-        };
-        let messages = joined(alloc, between(chain.messages, from, to))?;
-        let saved = saves && from == 0;
-        let end = if is_last {
-            (status, cause, saved)
-        } else {
-            (0, Cause::Done, saved)
-        };
-        add_run(&mut report, &output, &messages, end);
-        if !is_last || (!saves && cause == Cause::Done) {
-            report.add(b"one frozen text\n");
-        } else if !saves {
-            report.add(b"no frozen text\n");
-        }
+        add_expected(chain, from, to, &mut report);
         from = to;
     }
     report.text()
@@ -302,10 +320,7 @@ fn chains_are_one_run(rt: HostRuntime) {
 #[test]
 fn two_runs_are_one(rt: HostRuntime) {
     compare_chains(&rt, &SPLITS, &TWO);
-}
-
-#[test]
-fn two_runs_have_the_messages_and_the_end_of_one(rt: HostRuntime) {
+    compare_chains(&rt, &NAMES, &TWO);
     compare_chains(&rt, &SPLIT_MESSAGES, &TWO);
 }
 

@@ -3,6 +3,7 @@
 use m4_engine::ending::Cause;
 use m4_engine::options::Options;
 use m4_state::memory::MemSink;
+use std::alloc::{AllocError, Global};
 
 /// How many bytes a reader returns and a writer accepts at a time.
 pub const BLOCKS: [usize; 4] = [1, 2, 3, 4096];
@@ -37,27 +38,60 @@ pub const FAILED_READ: End = (1, Cause::Read, false);
 
 pub const FAILED_WRITE: End = (1, Cause::Write, false);
 
-/// The outputs of a run, how it ended, whether it read all of the frozen file that it started from, and how many bytes
-/// it read of its first source.
-pub struct Seen {
+/// The writers of a run or of a session.
+pub struct Writers {
     pub output: MemSink,
     pub messages: MemSink,
     pub frozen_text: MemSink,
+}
+
+impl Writers {
+    /// Makes writers with this room for the output, the messages and the frozen text. They accept this many bytes at a
+    /// time.
+    pub fn new(
+        alloc: Global,
+        room: (usize, usize, usize),
+        block: usize,
+    ) -> Result<Writers, AllocError> {
+        Ok(Writers {
+            output: MemSink::new(alloc, room.0, block.max(1))?,
+            messages: MemSink::new(alloc, room.1, block.max(1))?,
+            frozen_text: MemSink::new(alloc, room.2, block.max(1))?,
+        })
+    }
+}
+
+// Written out so that a caller's proof contains one call, not the drop of each field.
+impl Drop for Writers {
+    fn drop(self) {
+        let Writers {
+            output: _output,
+            messages: _messages,
+            frozen_text: _frozen_text,
+        } = self;
+    }
+}
+
+/// The outputs of a run, how it ended, whether it read all of the frozen file that it started from, and how many bytes
+/// it read of its first source.
+#[derive(Drop)]
+pub struct Seen {
+    pub writers: Writers,
     pub end: End,
     pub is_loaded: bool,
     pub taken: usize,
 }
 
-// Written out so that a caller's proof contains one call, not the drop of each field.
-impl Drop for Seen {
-    fn drop(self) {
-        let Seen {
-            output: _output,
-            messages: _messages,
-            frozen_text: _frozen_text,
-            end: _end,
-            is_loaded: _is_loaded,
-            taken: _taken,
-        } = self;
+impl Seen {
+    pub fn output(&self) -> &[u8] {
+        self.writers.output.written()
+    }
+
+    pub fn messages(&self) -> &[u8] {
+        self.writers.messages.written()
+    }
+
+    pub fn frozen_text(&self) -> &[u8] {
+        self.writers.frozen_text.written()
     }
 }

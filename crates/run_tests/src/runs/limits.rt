@@ -49,9 +49,5 @@ static ENDLESS: [Row; 3] = rows! {
 #[test]
 fn limits_end_a_run(rt: HostRuntime) {
     compare(&rt, &ROWS);
-}
-
-#[test]
-fn limits_end_endless_runs(rt: HostRuntime) {
     compare(&rt, &ENDLESS);
 }

@@ -9,7 +9,8 @@
 use super::given::Seen;
 use super::rows::Given::File;
 use super::rows::{Frozen, Row, Start, bytes_of, frozen_of, run_row};
-use super::whole_texts::{BEGIN, CUT_TEXT, END, GREETING_TEXT, NAMES};
+use super::whole_texts::Part::{First, Last, Names, Text};
+use super::whole_texts::{CUT_TEXT, GREETING_TEXT, Part, text_of};
 use m4_engine::ending::Cause;
 use m4_frozen::fault::FrozenKind;
 use std::alloc::Global;
@@ -23,7 +24,7 @@ static SPLITS: [[Row; 2]; 4] = [
     },
     rows! {
         "a stack", "define(`x',`1')pushdef(`x',`2')dnl\n" => "",
-            frozen_text: Some(&[BEGIN, NAMES, "T1,1\nx1\nT1,1\nx2\n", END]);
+            frozen_text: Some(&[First, Names, Text("T1,1\nx1\nT1,1\nx2\n"), Last]);
         "a stack that is unwound", "x popdef(`x')x popdef(`x')x\n" => "2 1 x\n";
     },
     rows! {
@@ -33,7 +34,7 @@ static SPLITS: [[Row; 2]; 4] = [
     },
     rows! {
         "diversions", "divert(2)two\ndivert(1)one\ndivert(2)dnl\n" => "",
-            frozen_text: Some(&[BEGIN, NAMES, "D1,4\none\n\nD2,4\ntwo\n\n", END]);
+            frozen_text: Some(&[First, Names, Text("D1,4\none\n\nD2,4\ntwo\n\n"), Last]);
         "diversions that are issued", "more\n" => "one\ntwo\nmore\n";
     },
 ];
@@ -43,10 +44,10 @@ static RUNS: [Row; 5] = rows! {
         "Hello you.\n";
     "a placeholder", "regexp(`a',`b')!\n" => "!\n", start: Start::Frozen("V1\nF6,6\nregexpregexp\n"),
         messages: "m4:b.m4:1: Warning: builtin `regexp' requested by frozen file is not supported\n",
-        frozen_text: Some(&[BEGIN, "F6,6\nregexpregexp\n", END]);
+        frozen_text: Some(&[First, Text("F6,6\nregexpregexp\n"), Last]);
     "a state that is frozen again", "a define(`c',`d$1')a\n" => "b b\n",
         start: Start::Frozen("V1\nF6,6\ndefinedefine\nT1,1\nab\n"),
-        frozen_text: Some(&[BEGIN, "T1,1\nab\nT1,3\ncd$1\nF6,6\ndefinedefine\n", END]);
+        frozen_text: Some(&[First, Text("T1,1\nab\nT1,3\ncd$1\nF6,6\ndefinedefine\n"), Last]);
     "definitions that are shown", "define(`b',`2')define(`a',`1')dumpdef(`b',`a',`dnl',`z')\n" => "\n",
         messages: "m4:a.m4:1: Warning: undefined macro `z'\na:\t`1'\nb:\t`2'\ndnl:\t<dnl>\n";
     "dollars", "define(`g',`[$#|$*|$2$11|$x]')g(a,`b',)\n" => "[3|a,b,|b|$x]\n";
@@ -55,11 +56,11 @@ static RUNS: [Row; 5] = rows! {
 /// How many bytes a device takes at a time, so that a refusal may come before a frozen file is read to its end.
 const BLOCK: usize = 16;
 
-/// Returns whether bytes are the pieces, one after the other.
-fn are_joined(bytes: &[u8], pieces: &[&str]) -> bool {
+/// Returns whether bytes are the parts, one after the other.
+fn are_joined(bytes: &[u8], parts: &[Part]) -> bool {
     let mut rest = bytes;
-    for piece in pieces {
-        match rest.strip_prefix(piece.as_bytes()) {
+    for part in parts {
+        match rest.strip_prefix(text_of(*part).as_bytes()) {
             Some(after) => rest = after,
             None => return false,
         }
@@ -73,14 +74,14 @@ fn is_whole(row: &Row, seen: &Seen) -> bool {
     status == 0
         && cause == Cause::Done
         && !wrapped
-        && seen.output.written() == row.output.as_bytes()
-        && seen.messages.written() == row.messages.as_bytes()
-        && are_joined(seen.frozen_text.written(), row.frozen_text.unwrap_or(&[]))
+        && seen.output() == row.output.as_bytes()
+        && seen.messages() == row.messages.as_bytes()
+        && are_joined(seen.frozen_text(), row.frozen_text.unwrap_or(&[]))
 }
 
 /// Returns whether a run read and wrote nothing.
 fn did_not_begin(seen: &Seen) -> bool {
-    seen.taken == 0 && seen.output.written().is_empty() && seen.messages.written().is_empty()
+    seen.taken == 0 && seen.output().is_empty() && seen.messages().is_empty()
 }
 
 /// Returns whether a run broke off by want of memory. Before it has its frozen file, that is the fault of the file.
@@ -98,9 +99,9 @@ fn broke_off(row: &Row, is_reloading: bool, seen: &Seen) -> bool {
     };
     status == 1
         && wanted_memory
-        && row.output.as_bytes().starts_with(seen.output.written())
-        && row.messages.as_bytes().starts_with(seen.messages.written())
-        && seen.frozen_text.written().is_empty()
+        && row.output.as_bytes().starts_with(seen.output())
+        && row.messages.as_bytes().starts_with(seen.messages())
+        && seen.frozen_text().is_empty()
 }
 
 /// Makes a run of a row. Returns what it left, if that is all that its row has; counts it if it broke off.
@@ -128,7 +129,7 @@ fn runs_that_are_split(rt: HostRuntime) {
     let mut broken = 0u32;
     for [first, second] in &SPLITS {
         if let Some(left) = followed(&rt, None, first, &mut broken) {
-            let start = Some((left.frozen_text.written(), false));
+            let start = Some((left.frozen_text(), false));
             let _second = followed(&rt, start, second, &mut broken);
         }
     }

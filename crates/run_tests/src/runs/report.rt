@@ -1,6 +1,7 @@
 //! The report on a run, as text.
 
 use super::given::{End, Seen};
+use super::whole_texts::{Part, text_of};
 use part_tests::report::Report;
 use std::alloc::{AllocError, Global};
 
@@ -13,16 +14,28 @@ pub fn add_run(report: &mut Report, output: &[u8], messages: &[u8], end: End) {
 
 /// Adds what a run left, but for its frozen text.
 pub fn add_seen(report: &mut Report, seen: &Seen) {
-    let (output, messages) = (seen.output.written(), seen.messages.written());
+    let (output, messages) = (seen.output(), seen.messages());
     add_run(report, output, messages, seen.end);
 }
 
-/// Joins pieces of text.
-pub fn joined(alloc: Global, pieces: &[&str]) -> Result<Vec<u8>, AllocError> {
-    let mut report = Report::new(alloc);
+/// Adds pieces of text.
+pub fn add_pieces(report: &mut Report, pieces: &[&str]) {
     for piece in pieces {
         report.add(piece.as_bytes());
     }
+}
+
+/// Adds the parts of a frozen text.
+fn add_parts(report: &mut Report, parts: &[Part]) {
+    for part in parts {
+        report.add(text_of(*part).as_bytes());
+    }
+}
+
+/// Returns a frozen text.
+pub fn joined(alloc: Global, parts: &[Part]) -> Result<Vec<u8>, AllocError> {
+    let mut report = Report::new(alloc);
+    add_parts(&mut report, parts);
     report.text()
 }
 
@@ -31,11 +44,12 @@ pub fn expected(
     alloc: Global,
     (output, messages): (&[u8], &[u8]),
     end: End,
-    frozen_text: &[&str],
+    frozen_text: &[Part],
 ) -> Result<Vec<u8>, AllocError> {
     let mut report = Report::new(alloc);
     add_run(&mut report, output, messages, end);
-    report.pair(b"|", &joined(alloc, frozen_text)?);
+    report.add(b"|");
+    add_parts(&mut report, frozen_text);
     report.text()
 }
 
@@ -43,6 +57,6 @@ pub fn expected(
 pub fn printed_seen(alloc: Global, seen: &Seen) -> Result<Vec<u8>, AllocError> {
     let mut report = Report::new(alloc);
     add_seen(&mut report, seen);
-    report.pair(b"|", seen.frozen_text.written());
+    report.pair(b"|", seen.frozen_text());
     report.text()
 }

@@ -2,14 +2,15 @@
 //!
 //! Each row is run with readers and writers of several sizes, since no result may depend on them.
 
-use super::given::{AMPLE, BLOCKS, DONE, End, Seen, USUAL};
+use super::given::{AMPLE, BLOCKS, DONE, End, Seen, USUAL, Writers};
 use super::report::{expected, printed_seen};
 use super::shows::agrees_by;
+use super::whole_texts::Part;
 use m4_engine::options::Options;
 use m4_engine::run::run;
 use m4_engine::source::Source;
 use m4_state::bytes::Bytes;
-use m4_state::memory::{MemSink, MemSource};
+use m4_state::memory::MemSource;
 use std::alloc::{AllocError, Global};
 use std::process::Abort;
 
@@ -50,7 +51,7 @@ pub struct Row {
     pub output: &'static str,
     pub messages: &'static str,
     pub end: End,
-    pub frozen_text: Option<&'static [&'static str]>,
+    pub frozen_text: Option<&'static [Part]>,
 }
 
 /// A run over no file, which writes nothing.
@@ -141,9 +142,7 @@ pub fn run_over<'a>(
     room: (usize, usize, usize),
     block: usize,
 ) -> Result<Seen, AllocError> {
-    let mut output = MemSink::new(alloc, room.0, block.max(1))?;
-    let mut messages = MemSink::new(alloc, room.1, block.max(1))?;
-    let mut frozen_text = MemSink::new(alloc, room.2, block.max(1))?;
+    let mut writers = Writers::new(alloc, room, block)?;
     let mut frozen = match start {
         Some((text, fails)) => Some(MemSource::new(text, block.max(1), fails)),
         None => None,
@@ -153,22 +152,24 @@ pub fn run_over<'a>(
         options,
         &mut frozen,
         sources,
-        &mut output,
-        &mut messages,
-        &mut frozen_text,
+        &mut writers.output,
+        &mut writers.messages,
+        &mut writers.frozen_text,
     );
-    let is_loaded = match (start, &frozen) {
-        (Some((text, _)), Some(reader)) => reader.taken() == text.len(),
-        _ => true,
-    };
     Ok(Seen {
-        output,
-        messages,
-        frozen_text,
+        writers,
         end: (ending.status, ending.cause, ending.wrapped),
-        is_loaded,
+        is_loaded: is_loaded(start, &frozen),
         taken: taken(sources),
     })
+}
+
+/// Returns whether a reader returned all of its frozen file, if there is one.
+fn is_loaded(start: Frozen<'_>, reader: &Option<MemSource<'_>>) -> bool {
+    match (start, reader) {
+        (Some((text, _)), Some(reader)) => reader.taken() == text.len(),
+        _ => true,
+    }
 }
 
 /// Runs a row from this frozen file, if there is one, over these files and with this room.
@@ -193,7 +194,7 @@ pub fn frozen_after(
     block: usize,
 ) -> Result<Vec<u8>, AllocError> {
     let seen = run_row(alloc, &FREEZING, start, files, AMPLE, block)?;
-    Vec::from_slice(alloc, seen.frozen_text.written())
+    Vec::from_slice(alloc, seen.frozen_text())
 }
 
 /// Returns the bytes of the frozen file that a run starts from; none for the fresh state.

@@ -3,12 +3,12 @@
 use super::given::{DONE, End, Seen, USUAL, options};
 use super::report::{expected, printed_seen};
 use super::rows::run_over;
-use super::shows::agrees_by;
+use super::shows::{agrees_by, shows_by};
 use m4_engine::ending::Cause;
 use m4_engine::source::Source;
 use m4_state::bytes::Bytes;
 use m4_state::memory::MemSource;
-use part_tests::report::Report;
+use part_tests::report::{Report, printed};
 use std::alloc::{AllocError, Global};
 use std::process::Abort;
 use std::test::Fail;
@@ -123,23 +123,28 @@ fn seen_of(alloc: Global, row: &Large, file: &[u8]) -> Result<Seen, AllocError> 
     run_over(alloc, options, None, &mut sources, (ROOM, 1024, 1024), 4096)
 }
 
+// Returns what a run has to leave, as a report.
+fn expected_of(alloc: Global, row: &Large) -> Result<Vec<u8>, AllocError> {
+    let output = made(alloc, row.output)?;
+    expected(alloc, (&output, row.messages.as_bytes()), row.end, &[])
+}
+
+// Returns what a run over this file leaves, as a report.
+fn printed_of(alloc: Global, row: &Large, file: &[u8]) -> Result<Vec<u8>, AllocError> {
+    printed_seen(alloc, &seen_of(alloc, row, file)?)
+}
+
 // Compares what a run over this file leaves.
-fn compare_file(
-    rt: &(impl Abort + Alloc<A = Global>),
-    row: &Large,
-    file: &[u8],
-) -> Result<(), AllocError> {
-    let output = made(rt.alloc(), row.output)?;
-    let want = expected(rt.alloc(), (&output, row.messages.as_bytes()), row.end, &[]);
-    let got = printed_seen(rt.alloc(), &seen_of(rt.alloc(), row, file)?);
+fn compare_file(rt: &(impl Abort + Alloc<A = Global>), row: &Large, file: &[u8]) {
+    let want = expected_of(rt.alloc(), row);
+    let got = printed_of(rt.alloc(), row, file);
     agrees_by(rt, row.name, row.block, want, got);
-    Ok(())
 }
 
 // Compares what each run leaves.
 fn compare(rt: &(impl Abort + Alloc<A = Global>), rows: &[Large]) -> Result<(), Fail> {
     for row in rows {
-        compare_file(rt, row, &made(rt.alloc(), row.file)?)?;
+        compare_file(rt, row, &made(rt.alloc(), row.file)?);
     }
     Ok(())
 }
@@ -193,23 +198,33 @@ fn names_by_the_hundred_thousand(rt: HostRuntime) -> Result<(), Fail> {
         output: &[("0 50000 99999\n", 1)],
         ..UNLIMITED
     };
-    compare_file(&rt, &row, &many_names(rt.alloc())?)?;
+    compare_file(&rt, &row, &many_names(rt.alloc())?);
     Ok(())
 }
 
 // How many bytes a reader returns at a time, and how many it returned in all: the newline after the name, which is
 // byte 7, decides that the run ends.
-static TAKEN: [(usize, usize); 4] = [(1, 7), (2, 8), (3, 9), (4096, 4096)];
+static TAKEN: [(usize, &str); 4] = [(1, "7"), (2, "8"), (3, "9"), (4096, "4096")];
+
+// Returns how many bytes a run over this file reads.
+fn taken_of(alloc: Global, row: &Large, file: &[u8]) -> Result<Vec<u8>, AllocError> {
+    printed(alloc, &seen_of(alloc, row, file)?.taken)
+}
+
+// Compares what a run leaves, and how many bytes it reads, with readers that return so many at a time.
+fn compare_taken(rt: &(impl Abort + Alloc<A = Global>), row: &Large, file: &[u8]) {
+    for (block, taken) in TAKEN {
+        let row = Large { block, ..*row };
+        compare_file(rt, &row, file);
+        let got = taken_of(rt.alloc(), &row, file);
+        shows_by(rt, row.name, block, taken.as_bytes(), got);
+    }
+}
 
 #[test]
 fn bytes_after_an_exit_are_not_read(rt: HostRuntime) -> Result<(), Fail> {
     for row in &EXIT {
-        let file = made(rt.alloc(), row.file)?;
-        for (block, most) in TAKEN {
-            let row = Large { block, ..*row };
-            compare_file(&rt, &row, &file)?;
-            assert_eq!(rt; seen_of(rt.alloc(), &row, &file)?.taken, most);
-        }
+        compare_taken(&rt, row, &made(rt.alloc(), row.file)?);
     }
     Ok(())
 }

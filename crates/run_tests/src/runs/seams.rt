@@ -121,31 +121,15 @@ static DIVERTED: [Row; 4] = rows! {
 };
 
 #[test]
-fn tokens_across_texts(rt: HostRuntime) {
+fn tokens_and_results_across_texts(rt: HostRuntime) {
     compare(&rt, &TOKENS);
-}
-
-#[test]
-fn results_before_other_text(rt: HostRuntime) {
     compare(&rt, &RESULTS);
-}
-
-#[test]
-fn long_results_before_other_text(rt: HostRuntime) {
     compare(&rt, &LONG_RESULTS);
 }
 
 #[test]
-fn delimiters_with_spaces(rt: HostRuntime) {
+fn delimiters_and_arguments_across_texts(rt: HostRuntime) {
     compare(&rt, &SPACES);
-}
-
-#[test]
-fn arguments_across_texts(rt: HostRuntime) {
     compare(&rt, &ARGUMENTS);
-}
-
-#[test]
-fn diverted_text_across_texts(rt: HostRuntime) {
     compare(&rt, &DIVERTED);
 }

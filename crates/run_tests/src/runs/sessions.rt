@@ -1,7 +1,7 @@
 //! Sessions call by call: their results and their outputs.
 
 use self::Call::{Failing, File, Finish, Freeze, Missing, Status};
-use super::given::{BLOCKS, ROOM, options};
+use super::given::{BLOCKS, ROOM, Writers, options};
 use super::shows::agrees_by;
 use m4_engine::session::Session;
 use m4_engine::stop::Stop;
@@ -107,24 +107,6 @@ static RELOADED: [Row; 6] = sessions! {
         start: Some("V1\nD0,3\nhi\n\n"), room: 2;
 };
 
-// The writers of a session.
-struct Writers {
-    out: MemSink,
-    messages: MemSink,
-    frozen_text: MemSink,
-}
-
-// Written out so that a caller's proof contains one call, not the drop of each field.
-impl Drop for Writers {
-    fn drop(self) {
-        let Writers {
-            out: _out,
-            messages: _messages,
-            frozen_text: _frozen_text,
-        } = self;
-    }
-}
-
 // Makes a call with readers that return this many bytes at a time, and adds its result.
 fn make(
     session: &mut Session,
@@ -135,24 +117,25 @@ fn make(
     name: Bytes,
 ) {
     let Writers {
-        out,
+        output: out,
         messages,
         frozen_text,
     } = writers;
-    match call {
-        File(text) => {
-            let mut reader = MemSource::new(text.as_bytes(), block.max(1), false);
-            report.print(&session.file(name, &mut reader, out, messages));
+    let answer = match call {
+        File(text) | Failing(text) => {
+            let fails = matches!(call, Failing(_));
+            let mut reader = MemSource::new(text.as_bytes(), block.max(1), fails);
+            session.file(name, &mut reader, out, messages)
         }
-        Failing(text) => {
-            let mut reader = MemSource::new(text.as_bytes(), block.max(1), true);
-            report.print(&session.file(name, &mut reader, out, messages));
+        Missing(name) => session.missing(name.as_bytes(), messages),
+        Finish => session.finish(out, messages),
+        Freeze => session.freeze(out, messages, frozen_text),
+        Status => {
+            report.print(&(session.status(), session.wrapped()));
+            return report.add(b"\n");
         }
-        Missing(name) => report.print(&session.missing(name.as_bytes(), messages)),
-        Finish => report.print(&session.finish(out, messages)),
-        Freeze => report.print(&session.freeze(out, messages, frozen_text)),
-        Status => report.print(&(session.status(), session.wrapped())),
-    }
+    };
+    report.print(&answer);
     report.add(b"\n");
 }
 
@@ -180,7 +163,7 @@ fn add_calls(
     writers: &mut Writers,
     report: &mut Report,
 ) -> Result<(), AllocError> {
-    match started(alloc, row.start, block, &mut writers.out) {
+    match started(alloc, row.start, block, &mut writers.output) {
         Ok(mut session) => {
             for call in row.calls {
                 let name = Bytes::from_slice(alloc, b"a.m4")?;
@@ -199,13 +182,9 @@ fn add_calls(
 // Reports a row.
 fn seen(alloc: Global, row: &Row, block: usize) -> Result<Vec<u8>, AllocError> {
     let mut report = Report::new(alloc);
-    let mut writers = Writers {
-        out: MemSink::new(alloc, row.room, block.max(1))?,
-        messages: MemSink::new(alloc, ROOM, block.max(1))?,
-        frozen_text: MemSink::new(alloc, ROOM, block.max(1))?,
-    };
+    let mut writers = Writers::new(alloc, (row.room, ROOM, ROOM), block)?;
     add_calls(alloc, row, block, &mut writers, &mut report)?;
-    report.pair(writers.out.written(), b"|");
+    report.pair(writers.output.written(), b"|");
     report.pair(writers.messages.written(), b"|");
     report.add(writers.frozen_text.written());
     report.text()
@@ -224,9 +203,5 @@ fn compare(rt: &(impl Abort + Alloc<A = Global>), rows: &[Row]) {
 #[test]
 fn calls_and_their_answers(rt: HostRuntime) {
     compare(&rt, &STARTED);
-}
-
-#[test]
-fn calls_after_a_reload(rt: HostRuntime) {
     compare(&rt, &RELOADED);
 }

@@ -3,24 +3,55 @@
 use std::alloc::AllocError;
 use std::process::Abort;
 
-/// Ends the test unless the report is the expected one. Bytes that are not printable text are printed
-/// as escapes.
+// Ends the test with both reports. Bytes that are not printable text are printed as escapes.
+fn fail(rt: &impl Abort, row: &str, expected: &[u8], got: &[u8]) {
+    panic!(rt;
+        "{row}\nexpected: {}\n     got: {}",
+        expected.escape_ascii(),
+        got.escape_ascii()
+    );
+}
+
+// Does the same for a row whose devices take this many bytes at a time.
+fn fail_by(rt: &impl Abort, row: &str, block: usize, expected: &[u8], got: &[u8]) {
+    panic!(rt;
+        "{row}, read {block} bytes at a time\nexpected: {}\n     got: {}",
+        expected.escape_ascii(),
+        got.escape_ascii()
+    );
+}
+
+/// Ends the test unless the report is the expected one.
 pub fn shows(rt: &impl Abort, row: &str, expected: &[u8], got: Result<Vec<u8>, AllocError>) {
     match got {
         Ok(got) => {
-            assert!(rt;
-                got.as_slice() == expected,
-                "{row}\nexpected: {}\n     got: {}",
-                expected.escape_ascii(),
-                got.escape_ascii()
-            );
+            if got.as_slice() != expected {
+                fail(rt, row, expected, &got);
+            }
         }
-        Err(AllocError) => panic!(rt; "{row}: out of memory"),
+        Err(AllocError) => fail(rt, row, expected, b"out of memory"),
     }
 }
 
-/// Does the same for an expected report that was made for the row, whose devices take this many bytes at a time. A row
-/// that failed names them.
+/// Does the same for a row whose devices take this many bytes at a time. A row that failed names them.
+pub fn shows_by(
+    rt: &impl Abort,
+    row: &str,
+    block: usize,
+    expected: &[u8],
+    got: Result<Vec<u8>, AllocError>,
+) {
+    match got {
+        Ok(got) => {
+            if got.as_slice() != expected {
+                fail_by(rt, row, block, expected, &got);
+            }
+        }
+        Err(AllocError) => fail_by(rt, row, block, expected, b"out of memory"),
+    }
+}
+
+/// Does the same for an expected report that was made for the row.
 pub fn agrees_by(
     rt: &impl Abort,
     row: &str,
@@ -28,15 +59,8 @@ pub fn agrees_by(
     expected: Result<Vec<u8>, AllocError>,
     got: Result<Vec<u8>, AllocError>,
 ) {
-    match (expected, got) {
-        (Ok(expected), Ok(got)) => {
-            assert!(rt;
-                got.as_slice() == expected.as_slice(),
-                "{row}, read {block} bytes at a time\nexpected: {}\n     got: {}",
-                expected.as_slice().escape_ascii(),
-                got.as_slice().escape_ascii()
-            );
-        }
-        _ => panic!(rt; "{row}, read {block} bytes at a time: out of memory"),
+    match expected {
+        Ok(expected) => shows_by(rt, row, block, &expected, got),
+        Err(AllocError) => fail_by(rt, row, block, b"out of memory", b""),
     }
 }

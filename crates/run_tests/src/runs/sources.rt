@@ -107,31 +107,15 @@ static ORDER: [Row; 9] = rows! {
 };
 
 #[test]
-fn files_in_their_order(rt: HostRuntime) {
+fn sources_in_their_order(rt: HostRuntime) {
     compare(&rt, &FILES);
-}
-
-#[test]
-fn sources_that_are_not_opened(rt: HostRuntime) {
     compare(&rt, &NOT_OPENED);
-}
-
-#[test]
-fn faults_of_readers_and_writers(rt: HostRuntime) {
     compare(&rt, &FAULTS);
 }
 
 #[test]
-fn output_and_messages_in_order(rt: HostRuntime) {
+fn output_up_to_a_failure(rt: HostRuntime) {
     compare(&rt, &ORDER);
-}
-
-#[test]
-fn readers_that_fail_within_a_token(rt: HostRuntime) {
     compare(&rt, &OPEN_TOKENS);
-}
-
-#[test]
-fn readers_that_fail_within_a_call(rt: HostRuntime) {
     compare(&rt, &OPEN_CALLS);
 }

@@ -2,12 +2,14 @@
 //! of what it writes without a failure. Manual: "Exiting from m4", "Fast loading of frozen state".
 
 use super::given::{FAILED_WRITE, ROOM, Seen};
-use super::report::joined;
+use super::report::{joined, printed_seen};
 use super::rows::Given::{Failing, File};
 use super::rows::{Row, Start, bytes_of, compare, frozen_of, run_row};
-use super::whole_texts::{BEGIN, END, NAMES};
+use super::shows::agrees_by;
+use super::whole_texts::Part::{First, Last, Names, Text};
 use m4_engine::ending::Cause;
 use m4_frozen::fault::{FrozenFault, FrozenKind};
+use part_tests::report::Report;
 use std::alloc::{AllocError, Global};
 use std::process::Abort;
 use std::test::Fail;
@@ -21,7 +23,7 @@ static FAILING: [Row; 4] = rows! {
         room: (ROOM, 0, ROOM), end: FAILED_WRITE;
     "a frozen text of which 20 bytes are accepted", "a define(`c',`d$1')a\n" => "b b\n",
         start: Start::Frozen(DEFINES), room: (ROOM, ROOM, 20), end: FAILED_WRITE,
-        frozen_text: Some(&["# m4 frozen state\nV1"]);
+        frozen_text: Some(&[Text("# m4 frozen state\nV1")]);
     "a frozen file whose reader returns five bytes", "a define(`c',`d$1')a\n" => "",
         start: Start::Broken("V1\nF6"),
         end: (1, Cause::Frozen(FrozenFault { kind: FrozenKind::Read, offset: 5 }), false),
@@ -29,37 +31,33 @@ static FAILING: [Row; 4] = rows! {
 };
 
 #[test]
-fn a_device_fails(rt: HostRuntime) {
+fn a_device_fails_or_none(rt: HostRuntime) {
     compare(&rt, &FAILING);
+    compare(&rt, &WHOLE);
 }
 
 // Runs over one file, and what they leave without a failure.
 static WHOLE: [Row; 7] = rows! {
     "diversions out of order, which are frozen", "divert(2)two\ndivert(1)one\ndivert(2)dnl\n" => "",
-        frozen_text: Some(&[BEGIN, NAMES, "D1,4\none\n\nD2,4\ntwo\n\n", END]);
+        frozen_text: Some(&[First, Names, Text("D1,4\none\n\nD2,4\ntwo\n\n"), Last]);
     "diversions that are issued after a reload", "more\n" => "one\ntwo\nmore\n",
         start: Start::After("divert(2)two\ndivert(1)one\ndivert(2)dnl\n");
     "output and diversions from a frozen file", "x\ndivert(2)two\ndivert(1)one\ndivert(2)dnl\n" => "x\n",
         start: Start::Frozen("V1\nF6,6\ndivertdivert\nF3,3\ndnldnl\n"),
-        frozen_text: Some(&[BEGIN, "F6,6\ndivertdivert\nF3,3\ndnldnl\nD1,4\none\n\nD2,4\ntwo\n\n", END]);
+        frozen_text: Some(&[First, Text("F6,6\ndivertdivert\nF3,3\ndnldnl\nD1,4\none\n\nD2,4\ntwo\n\n"), Last]);
     "a state that is frozen again", "a define(`c',`d$1')a\n" => "b b\n", start: Start::Frozen(DEFINES),
-        frozen_text: Some(&[BEGIN, "T1,1\nab\nT1,3\ncd$1\nF6,6\ndefinedefine\n", END]);
+        frozen_text: Some(&[First, Text("T1,1\nab\nT1,3\ncd$1\nF6,6\ndefinedefine\n"), Last]);
     "a placeholder that is frozen again", "regexp(`a',`b')!\n" => "!\n",
         start: Start::Frozen("V1\nF6,6\nregexpregexp\n"),
         messages: "m4:b.m4:1: Warning: builtin `regexp' requested by frozen file is not supported\n",
-        frozen_text: Some(&[BEGIN, "F6,6\nregexpregexp\n", END]);
+        frozen_text: Some(&[First, Text("F6,6\nregexpregexp\n"), Last]);
     "definitions as messages", "define(`b',`2')define(`a',`1')dumpdef(`b',`a',`dnl',`z')\n" => "\n",
         messages: "m4:a.m4:1: Warning: undefined macro `z'\na:\t`1'\nb:\t`2'\ndnl:\t<dnl>\n";
     "definitions as messages, from a frozen file", "dumpdef(`b',`a',`dnl',`z')\n" => "\n",
         start: Start::Frozen("V1\nF7,7\ndumpdefdumpdef\nT1,1\na1\nT1,1\nb2\nF3,3\ndnldnl\n"),
         messages: "m4:b.m4:1: Warning: undefined macro `z'\na:\t`1'\nb:\t`2'\ndnl:\t<dnl>\n",
-        frozen_text: Some(&[BEGIN, "T1,1\na1\nT1,1\nb2\nF3,3\ndnldnl\nF7,7\ndumpdefdumpdef\n", END]);
+        frozen_text: Some(&[First, Text("T1,1\na1\nT1,1\nb2\nF3,3\ndnldnl\nF7,7\ndumpdefdumpdef\n"), Last]);
 };
-
-#[test]
-fn without_a_failure_all_is_written(rt: HostRuntime) {
-    compare(&rt, &WHOLE);
-}
 
 /// The device that fails.
 #[derive(Clone, Copy, Debug)]
@@ -133,9 +131,9 @@ fn cause(device: Device, after: usize) -> Cause {
 /// beginning. Only a failed write of the frozen text leaves any of it, and nothing is written if the frozen file is not
 /// loaded.
 fn is_right(row: &Row, whole: &[u8], device: Device, after: usize, seen: &Seen) -> bool {
-    let output = seen.output.written();
-    let messages = seen.messages.written();
-    let frozen_text = seen.frozen_text.written();
+    let output = seen.output();
+    let messages = seen.messages();
+    let frozen_text = seen.frozen_text();
     let begins = row.output.as_bytes().starts_with(output)
         && row.messages.as_bytes().starts_with(messages);
     let left = match device {
@@ -157,6 +155,30 @@ fn is_right(row: &Row, whole: &[u8], device: Device, after: usize, seen: &Seen) 
 /// How many bytes devices return and accept at a time while one fails.
 const SIZES: [usize; 2] = [2, 4096];
 
+/// Returns what is printed as expected where a run is not right: the device that fails, and after how many bytes.
+fn failure(alloc: Global, device: Device, after: usize) -> Result<Vec<u8>, AllocError> {
+    let mut report = Report::new(alloc);
+    report.print(&device);
+    report.counted(b" fails after ", after);
+    report.text()
+}
+
+/// Lets a device fail after this many bytes. The frozen file and the frozen text are given.
+fn fail_after(
+    rt: &(impl Abort + Alloc<A = Global>),
+    row: &Row,
+    (bytes, whole): (&[u8], &[u8]),
+    (device, after): (Device, usize),
+    block: usize,
+) -> Result<(), AllocError> {
+    let seen = run_cut(rt.alloc(), row, bytes, (device, after), block)?;
+    if !is_right(row, whole, device, after, &seen) {
+        let want = failure(rt.alloc(), device, after);
+        agrees_by(rt, row.name, block, want, printed_seen(rt.alloc(), &seen));
+    }
+    Ok(())
+}
+
 /// Lets a device fail after each number of bytes of its text.
 fn sweep(
     rt: &(impl Abort + Alloc<A = Global>),
@@ -167,16 +189,17 @@ fn sweep(
     let bytes = bytes_of(rt.alloc(), row.start, 4096)?;
     for after in 0..failures_of(row, &bytes, &whole, device) {
         for block in SIZES {
-            let seen = run_cut(rt.alloc(), row, &bytes, (device, after), block)?;
-            assert!(rt;
-                is_right(row, &whole, device, after, &seen),
-                "{}: {device:?} fails after {after} bytes, read {block} at a time: {:?}\n{}\n{}\n{}",
-                row.name,
-                seen.end,
-                seen.output.written().escape_ascii(),
-                seen.messages.written().escape_ascii(),
-                seen.frozen_text.written().escape_ascii()
-            );
+            fail_after(rt, row, (&bytes, &whole), (device, after), block)?;
+        }
+    }
+    Ok(())
+}
+
+/// Lets each of these devices fail, in each run.
+fn sweep_all(rt: &(impl Abort + Alloc<A = Global>), devices: &[Device]) -> Result<(), Fail> {
+    for row in &WHOLE {
+        for &device in devices {
+            sweep(rt, row, device)?;
         }
     }
     Ok(())
@@ -184,19 +207,10 @@ fn sweep(
 
 #[test]
 fn readers_fail_after_each_byte(rt: HostRuntime) -> Result<(), Fail> {
-    for row in &WHOLE {
-        sweep(&rt, row, Device::Frozen)?;
-        sweep(&rt, row, Device::File)?;
-    }
-    Ok(())
+    sweep_all(&rt, &[Device::Frozen, Device::File])
 }
 
 #[test]
 fn writers_fail_after_each_byte(rt: HostRuntime) -> Result<(), Fail> {
-    for row in &WHOLE {
-        sweep(&rt, row, Device::Output)?;
-        sweep(&rt, row, Device::Messages)?;
-        sweep(&rt, row, Device::FrozenText)?;
-    }
-    Ok(())
+    sweep_all(&rt, &[Device::Output, Device::Messages, Device::FrozenText])
 }

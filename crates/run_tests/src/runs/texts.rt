@@ -86,21 +86,9 @@ static PLACES: [Row; 5] = rows! {
 };
 
 #[test]
-fn builtins_on_texts(rt: HostRuntime) {
+fn builtins_on_texts_and_numbers(rt: HostRuntime) {
     compare(&rt, &TEXTS);
-}
-
-#[test]
-fn builtins_on_parts_and_numbers(rt: HostRuntime) {
     compare(&rt, &PARTS_AND_NUMBERS);
-}
-
-#[test]
-fn expressions(rt: HostRuntime) {
     compare(&rt, &EXPRESSIONS);
-}
-
-#[test]
-fn messages_and_places(rt: HostRuntime) {
     compare(&rt, &PLACES);
 }

@@ -113,26 +113,15 @@ static EXITS_WITHIN: [Row; 5] = rows! {
 #[test]
 fn saved_text_is_read_at_the_end(rt: HostRuntime) {
     compare(&rt, &SAVES);
-}
-
-#[test]
-fn saved_text_is_expanded(rt: HostRuntime) {
     compare(&rt, &SAVED_TEXTS);
-}
-
-#[test]
-fn saved_text_that_breaks_off(rt: HostRuntime) {
     compare(&rt, &BROKEN_OFF);
 }
 
 #[test]
 fn a_macro_ends_the_run(rt: HostRuntime) {
     compare(&rt, &EXITS);
-}
-
-#[test]
-fn a_macro_ends_the_run_within_a_text(rt: HostRuntime) {
     compare(&rt, &EXITS_WITHIN);
+    compare(&rt, &FREEZES);
 }
 
 // Runs that freeze.
@@ -150,8 +139,3 @@ static FREEZES: [Row; 7] = rows! {
     "a macro within saved text ends the run", "m4wrap(`w m4exit(`2')v')x\n" => "x\nw ",
         end: (2, Cause::Exited(2), false), frozen_text: Some(&[]);
 };
-
-#[test]
-fn saved_text_is_never_frozen(rt: HostRuntime) {
-    compare(&rt, &FREEZES);
-}

@@ -73,16 +73,12 @@ static FLUSHES: [Row; 8] = lines! {
 };
 
 #[test]
-fn readers_fail(rt: HostRuntime) {
+fn readers_and_last_flushes_fail(rt: HostRuntime) {
     compare(&rt, &READERS);
+    compare(&rt, &FLUSHES);
 }
 
 #[test]
 fn writers_fail(rt: HostRuntime) {
     compare(&rt, &WRITERS);
-}
-
-#[test]
-fn last_flushes_fail(rt: HostRuntime) {
-    compare(&rt, &FLUSHES);
 }

@@ -27,9 +27,9 @@ pub const WHOLE: Given<'static> = Given {
 };
 
 /// The words of a line; standard input, and whether it fails after these bytes; whether a file can be made, and whether
-/// the outputs can be flushed; the room of the output and of the messages; and what the line leaves: its status, whether
-/// text was saved when the last file ended, its output, at least and at most if a reader fails, its messages, and the
-/// name and the bytes of the file that is made.
+/// the outputs can be flushed; the room of the output and of the messages; and what the line leaves: its status,
+/// whether text was saved when the last file ended, its output, at least and at most if a reader fails, its messages,
+/// and the name and the bytes of the file that is made.
 pub struct Row {
     pub name: &'static str,
     pub words: &'static [&'static str],

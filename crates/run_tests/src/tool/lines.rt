@@ -7,12 +7,12 @@ use part_tests::report::Report;
 use std::alloc::{AllocError, Global};
 use std::process::Abort;
 
-// The words of a line, and the result.
-type Meaning = (&'static [&'static str], &'static str);
+// A line, its words with a space between them, and the result.
+type Meaning = [&'static str; 2];
 
 // Expands to lines: of each its words after the name of the program, and the result.
 macro_rules! meanings {
-    ($([$($word:literal),*] => $meaning:literal;)*) => { [$((&["m4r" $(, $word)*], $meaning)),*] };
+    ($([$($word:literal),*] => $meaning:literal;)*) => { [$([concat!("m4r" $(, " ", $word)*), $meaning]),*] };
 }
 
 // The result is a mode with its file, or a refusal.
@@ -152,44 +152,33 @@ fn add_asked(line: &Line, report: &mut Report) {
     }
 }
 
-// Reports a line.
-fn answer_of(alloc: Global, words: &[&str]) -> Result<Vec<u8>, AllocError> {
-    let mut report = Report::new(alloc);
-    add_answer(&read_line(alloc, words), &mut report);
-    report.text()
+// Returns the words of a line.
+fn words_of(alloc: Global, line: &str) -> Result<Vec<&str>, AllocError> {
+    let mut words = Vec::new(alloc);
+    for word in line.split(' ') {
+        words.push(word)?;
+    }
+    Ok(words)
 }
 
-// Compares the result for a line with its row.
-fn check_row(rt: &(impl Abort + Alloc<A = Global>), words: &[&str], want: &str) {
-    match format!(in rt.alloc(); "{words:?}") {
-        Ok(row) => shows(
-            rt,
-            row.as_str(),
-            want.as_bytes(),
-            answer_of(rt.alloc(), words),
-        ),
-        Err(AllocError) => panic!(rt; "{want}: out of memory"),
-    }
+// Reports a line.
+fn answer_of(alloc: Global, line: &str) -> Result<Vec<u8>, AllocError> {
+    let words = words_of(alloc, line)?;
+    let mut report = Report::new(alloc);
+    add_answer(&read_line(alloc, &words), &mut report);
+    report.text()
 }
 
 // Compares the result for each line with its row.
 fn check(rt: &(impl Abort + Alloc<A = Global>), rows: &[Meaning]) {
-    for &(words, want) in rows {
-        check_row(rt, words, want);
+    for [line, want] in rows {
+        shows(rt, line, want.as_bytes(), answer_of(rt.alloc(), line));
     }
 }
 
 #[test]
-fn each_line_with_a_mode_is_read(rt: HostRuntime) {
+fn each_line_is_read(rt: HostRuntime) {
     check(&rt, &MODES);
-}
-
-#[test]
-fn each_line_with_a_frozen_file_is_read(rt: HostRuntime) {
     check(&rt, &FROZEN);
-}
-
-#[test]
-fn each_line_with_no_mode_is_read(rt: HostRuntime) {
     check(&rt, &RUNS);
 }

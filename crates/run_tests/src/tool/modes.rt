@@ -214,17 +214,9 @@ fn a_file_of_each_name_has_its_canonical_text(rt: HostRuntime) {
 }
 
 #[test]
-fn refused_files_have_their_line(rt: HostRuntime) {
+fn refused_files_and_listings_have_their_lines(rt: HostRuntime) {
     compare(&rt, &REFUSED);
-}
-
-#[test]
-fn files_are_listed(rt: HostRuntime) {
     compare(&rt, &LISTED);
-}
-
-#[test]
-fn messages_that_fail_have_a_beginning(rt: HostRuntime) {
     compare(&rt, &SHORT);
 }
 

@@ -100,19 +100,7 @@ static FROZEN: [Row; 5] = lines! {
 #[test]
 fn lines_are_followed(rt: HostRuntime) {
     compare(&rt, &LINES);
-}
-
-#[test]
-fn faults_are_reported(rt: HostRuntime) {
     compare(&rt, &REFUSED);
-}
-
-#[test]
-fn modes_are_followed(rt: HostRuntime) {
     compare(&rt, &MODES);
-}
-
-#[test]
-fn files_are_frozen(rt: HostRuntime) {
     compare(&rt, &FROZEN);
 }
