@@ -50,6 +50,24 @@ const WARNING: &[u8] = b"m4:a_file_of_more_than_thirty_letters.m4:1: Warning: ";
 
 const REST: &[u8] = b"text of its first definition, of more than thirty bytes";
 
+// A state with something in each of its parts: delimiters that are too long to be held in place; a name with two
+// definitions, and a builtin; and two diversions.
+const PREPARED: &[u8] = b"V1\nQ59,60\nthe text of its first definition, of more than thirty bytes\
+    the text of its second definition, of more than thirty bytes\n\
+    C59,60\nthe text of its first definition, of more than thirty bytes\
+    the text of its second definition, of more than thirty bytes\n\
+    T34,59\na_name_of_more_than_thirty_letters\
+    the text of its first definition, of more than thirty bytes\n\
+    T34,60\na_name_of_more_than_thirty_letters\
+    the text of its second definition, of more than thirty bytes\n\
+    F3,5\ncutshift\nD1,59\nthe text of its first definition, of more than thirty bytes\n\
+    D3,60\nthe text of its second definition, of more than thirty bytes\n";
+
+// A state with a name, and with text in a diversion that is not the current one.
+const NAMED: &[u8] = b"V1\nT34,59\na_name_of_more_than_thirty_letters\
+    the text of its first definition, of more than thirty bytes\n\
+    D1,59\nthe text of its first definition, of more than thirty bytes\nD0,0\n\n";
+
 const FROZEN: &[u8] = b"V1\nT2,3\nabcde\nD2,4\ntwo\n\n";
 
 const CANONICAL: &[u8] =
@@ -109,29 +127,18 @@ fn text_of(alloc: Global, text: &[u8]) -> Option<Def>
     }
 }
 
-// Returns a state with something in each of its parts: a name with two definitions, and a builtin; delimiters that are
-// too long to be held in place; and two diversions. This number is current.
-fn prepared(alloc: Global, current: i32) -> Option<State> {
-    let mut state = State::empty(alloc).ok()?;
-    let name = Bytes::from_slice(alloc, NAME.as_bytes()).ok()?;
-    let shared = name.share().ok()?;
-    state.push(name, text_of(alloc, FIRST.as_bytes())?).ok()?;
-    state.push(shared, text_of(alloc, SECOND.as_bytes())?).ok()?;
-    let cut = Bytes::from_slice(alloc, b"cut").ok()?;
-    state.push(cut, Def::Builtin(Builtin::Shift)).ok()?;
-    if set_long(alloc, &mut state, true, false)? || set_long(alloc, &mut state, false, false)? {
-        return None;
-    }
-    divert_to(&mut state, 1, FIRST.as_bytes())?;
-    divert_to(&mut state, 3, SECOND.as_bytes())?;
-    state.divert(current);
+// Loads the state of a frozen file.
+fn state_of(alloc: Global, file: &[u8]) -> Option<State> {
+    let mut reader = MemSource::new(file, 4096, false);
+    let (state, _issued) = read_frozen(alloc, &mut reader).ok()?.into_parts();
     Some(state)
 }
 
-// Adds text to a diversion; none if that is refused.
-fn divert_to(state: &mut State, number: i32, text: &[u8]) -> Option<()> {
-    state.divert(number);
-    state.append(text).ok()
+// Returns the state with something in each of its parts, where this number is current.
+fn prepared(alloc: Global, current: i32) -> Option<State> {
+    let mut state = state_of(alloc, PREPARED)?;
+    state.divert(current);
+    Some(state)
 }
 
 // Sets quotes or comment delimiters that are too long to be held in place, in this order or the other one. Returns
@@ -541,16 +548,6 @@ static PRINTING: [Called; 9] = rows! {
     "__line__", &[""] => Leaves::Warns("excess arguments to builtin `__line__' ignored");
 };
 
-// Returns a state with a name and text in a diversion.
-fn with_a_name(alloc: Global) -> Option<State> {
-    let mut state = State::empty(alloc).ok()?;
-    let name = Bytes::from_slice(alloc, NAME.as_bytes()).ok()?;
-    state.push(name, text_of(alloc, FIRST.as_bytes())?).ok()?;
-    divert_to(&mut state, 1, FIRST.as_bytes())?;
-    state.divert(0);
-    Some(state)
-}
-
 // Returns whether a message is the warning with this text, in line 1 of the file.
 fn is_warning(message: &[u8], text: &[u8]) -> bool {
     match message.strip_prefix(WARNING) {
@@ -588,7 +585,7 @@ fn is_left(effect: &Effect, state: &State, leaves: Leaves) -> bool {
 // Calls a builtin. A refusal is the call's one fault.
 fn acted(alloc: Global, (name, texts, leaves): Called) -> Outcome {
     let definition = Def::Builtin(Builtin::by_name(name.as_bytes())?);
-    let mut state = with_a_name(alloc)?;
+    let mut state = state_of(alloc, NAMED)?;
     let args = text_call_of(alloc, "f", texts).ok()?;
     let place = Place {
         file: Bytes::from_slice(alloc, FILE.as_bytes()).ok()?,

@@ -1,4 +1,4 @@
-//! Prints a row that failed: its name, and below it the expected and the actual report.
+//! Prints a row that failed: its name, how it was run, and below that the expected and the actual report.
 
 use std::alloc::AllocError;
 use std::fmt;
@@ -13,82 +13,67 @@ impl fmt::Display for Shown<'_> {
     }
 }
 
-/// Ends the test unless the report of a row is the expected one, run with devices that take this many bytes at
-/// a time, after this many bytes: those of the file before it is cut, or those before a device fails. A row that
-/// failed names both.
-pub fn agrees_cut(
-    rt: &impl Abort,
-    row: &str,
-    (block, cut): (usize, usize),
-    expected: Result<Vec<u8>, AllocError>,
-    got: Result<Vec<u8>, AllocError>,
-) {
-    match (expected, got) {
-        (Ok(expected), Ok(got)) => {
-            if got.as_slice() != expected.as_slice() {
-                panic!(rt;
-                    "{row}, cut after {cut} bytes, {block} bytes at a time\nexpected: {}\n     got: {}",
-                    Shown(&expected),
-                    Shown(&got)
-                );
-            }
-        }
-        _ => panic!(rt; "{row}, cut after {cut} bytes, {block} bytes at a time: out of memory"),
-    }
+/// How a row is run: with devices that take any number of bytes, or so many at a time, and then also after how many
+/// bytes a file is cut or a device fails.
+#[derive(Clone, Copy)]
+pub enum Way {
+    Whole,
+    By(usize),
+    Cut(usize, usize),
 }
 
-/// Does the same for a row that is not cut.
-pub fn agrees_by(
-    rt: &impl Abort,
-    row: &str,
-    block: usize,
-    expected: Result<Vec<u8>, AllocError>,
-    got: Result<Vec<u8>, AllocError>,
-) {
-    match (expected, got) {
-        (Ok(expected), Ok(got)) => {
-            if got.as_slice() != expected.as_slice() {
-                panic!(rt;
-                    "{row}, {block} bytes at a time\nexpected: {}\n     got: {}",
-                    Shown(&expected),
-                    Shown(&got)
-                );
-            }
+impl fmt::Display for Way {
+    fn fmt<W: fmt::Write>(&self, f: &mut fmt::Formatter<W>) -> fmt::Result {
+        match self {
+            Way::Whole => Ok(()),
+            Way::By(block) => write!(f, ", {block} bytes at a time"),
+            Way::Cut(block, cut) => write!(f, ", cut after {cut} bytes, {block} bytes at a time"),
         }
-        _ => panic!(rt; "{row}, {block} bytes at a time: out of memory"),
     }
 }
 
 // Ends the test with both reports.
-fn fail(rt: &impl Abort, row: &str, expected: &[u8], got: &[u8]) {
+fn fail(rt: &impl Abort, row: &str, way: Way, expected: &[u8], got: &[u8]) {
     panic!(rt;
-        "{row}\nexpected: {}\n     got: {}",
+        "{row}{way}\nexpected: {}\n     got: {}",
         Shown(expected),
         Shown(got)
     );
 }
 
-/// Ends the test unless the report is the expected one.
-pub fn shows(rt: &impl Abort, row: &str, expected: &[u8], got: Result<Vec<u8>, AllocError>) {
+// Ends the test unless the report of a row that is run in this way is the expected one.
+fn shows_in(
+    rt: &impl Abort,
+    row: &str,
+    way: Way,
+    expected: &[u8],
+    got: Result<Vec<u8>, AllocError>,
+) {
     match got {
         Ok(got) => {
             if got.as_slice() != expected {
-                fail(rt, row, expected, &got);
+                fail(rt, row, way, expected, &got);
             }
         }
-        Err(AllocError) => panic!(rt; "{row}: out of memory"),
+        Err(AllocError) => fail(rt, row, way, expected, b"out of memory"),
     }
 }
 
-/// Does the same for an expected report that was made for the row.
+/// Ends the test unless the report of a row is the expected one.
+pub fn shows(rt: &impl Abort, row: &str, expected: &[u8], got: Result<Vec<u8>, AllocError>) {
+    shows_in(rt, row, Way::Whole, expected, got);
+}
+
+/// Does the same for an expected report that was made for the row, which is run in this way.
 pub fn agrees(
     rt: &impl Abort,
     row: &str,
+    way: Way,
     expected: Result<Vec<u8>, AllocError>,
     got: Result<Vec<u8>, AllocError>,
 ) {
     match expected {
-        Ok(expected) => shows(rt, row, &expected, got),
-        Err(AllocError) => panic!(rt; "{row}: out of memory"),
+        Ok(expected) => shows_in(rt, row, way, &expected, got),
+        Err(AllocError) => fail(rt, row, way, b"out of memory", b""),
     }
 }

@@ -4,13 +4,14 @@
 //! whitespace in input", "Changing the quote characters", "Changing the comment delimiters".
 
 use super::Argument;
-use super::steps::{FEW, MANY, Row, Step, Warns, tried, warned};
+use super::steps::Warning::{Few, Many};
+use super::steps::{Row, Step, Warns, tried, warned};
 use crate::given::Given;
 
 // Calls in an empty state.
 static WARNED_DEFINE: [Warns; 2] = rows! {
-    "define with three arguments", &["f", "x", "y"], None => MANY;
-    "define with none", &[], None => FEW;
+    "define with three arguments", &["f", "x", "y"], None => Many;
+    "define with none", &[], None => Few;
 };
 
 static CALLS: [Row; 7] = step_rows! {

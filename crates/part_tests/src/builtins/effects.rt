@@ -4,7 +4,8 @@
 //! "Exiting from m4".
 
 use super::Argument;
-use super::steps::{EMPTY, FEW, Pushes, Row, Step, Warns, pushed, tried, warned};
+use super::steps::Warning::{Empty, Few};
+use super::steps::{Pushes, Row, Step, Warns, pushed, tried, warned};
 use crate::given::Given;
 
 // Calls in line 1 of `a.m4`, and of others in line 7.
@@ -14,8 +15,8 @@ static COUNTED: [Pushes; 2] = rows! {
 };
 
 static WARNED_COUNTED: [Warns; 2] = rows! {
-    "an empty argument is 0", &[""], Some("-1") => EMPTY;
-    "no argument", &[], None => FEW;
+    "an empty argument is 0", &[""], Some("-1") => Empty;
+    "no argument", &[], None => Few;
 };
 
 static OTHER_COUNTED: [Row; 4] = step_rows! {

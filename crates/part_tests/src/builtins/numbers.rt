@@ -1,6 +1,7 @@
 //! Arguments that are numbers, as `incr` reads them. Manual: "Macro arguments", "Decrement and increment operators".
 
-use super::steps::{NO_NUMBER, Pushes, Warns, pushed, warned};
+use super::steps::Warning::NoNumber;
+use super::steps::{Pushes, Warns, pushed, warned};
 
 static NUMBERS: [Pushes; 8] = rows! {
     "digits", &["12"] => "13";
@@ -15,25 +16,21 @@ static NUMBERS: [Pushes; 8] = rows! {
 
 // Texts that are no numbers.
 static NO_NUMBERS: [Warns; 11] = rows! {
-    "one above the greatest", &["2147483648"], None => NO_NUMBER;
-    "one below the least", &["-2147483649"], None => NO_NUMBER;
-    "30 digits", &["123456789012345678901234567890"], None => NO_NUMBER;
-    "2 to the power 64", &["18446744073709551616"], None => NO_NUMBER;
-    "a letter after", &["1x"], None => NO_NUMBER;
-    "white space alone", &["  "], None => NO_NUMBER;
-    "white space after", &["1 "], None => NO_NUMBER;
-    "white space after a sign", &["- 1"], None => NO_NUMBER;
-    "a sign alone", &["-"], None => NO_NUMBER;
-    "two signs", &["+-1"], None => NO_NUMBER;
-    "the bytes beside the digits", &["/:"], None => NO_NUMBER;
+    "one above the greatest", &["2147483648"], None => NoNumber;
+    "one below the least", &["-2147483649"], None => NoNumber;
+    "30 digits", &["123456789012345678901234567890"], None => NoNumber;
+    "2 to the power 64", &["18446744073709551616"], None => NoNumber;
+    "a letter after", &["1x"], None => NoNumber;
+    "white space alone", &["  "], None => NoNumber;
+    "white space after", &["1 "], None => NoNumber;
+    "white space after a sign", &["- 1"], None => NoNumber;
+    "a sign alone", &["-"], None => NoNumber;
+    "two signs", &["+-1"], None => NoNumber;
+    "the bytes beside the digits", &["/:"], None => NoNumber;
 };
 
 #[test]
 fn arguments_and_the_numbers_that_they_are(rt: HostRuntime) {
     pushed(&rt, rt.alloc(), "incr", &NUMBERS);
-}
-
-#[test]
-fn texts_that_are_no_numbers(rt: HostRuntime) {
     warned(&rt, rt.alloc(), "incr", &NO_NUMBERS);
 }

@@ -7,7 +7,7 @@ ghost use Rattle.m4_builtins.specs.Args.{IsArg};
 use super::{Argument, call_of, text_call_of};
 use crate::given::{Given, describe_definition, empty_state, made};
 use crate::report::{Report, joined};
-use crate::shows::{agrees, shows};
+use crate::shows::{Way, agrees, shows};
 use m4_builtins::act::act;
 use m4_builtins::args::Args;
 use m4_builtins::effect::Effect;
@@ -57,16 +57,14 @@ pub type Warns = (
     Warning,
 );
 
-/// A warning that names a builtin: what comes before the name, and what comes after it.
-pub type Warning = (&'static str, &'static str);
-
-pub const FEW: Warning = ("too few arguments to builtin `", "'");
-
-pub const MANY: Warning = ("excess arguments to builtin `", "' ignored");
-
-pub const NO_NUMBER: Warning = ("non-numeric argument to builtin `", "'");
-
-pub const EMPTY: Warning = ("empty string treated as 0 in builtin `", "'");
+/// A warning that names a builtin.
+#[derive(Clone, Copy)]
+pub enum Warning {
+    Few,
+    Many,
+    NoNumber,
+    Empty,
+}
 
 // What is called: a definition, its name, and the place of the call.
 type Called = (Given, &'static str, (&'static str, u64));
@@ -245,13 +243,23 @@ pub fn pushed(rt: &impl Abort, alloc: Global, builtin: &'static str, rows: &[Pus
     for &(name, texts, want) in rows {
         let got = report_of(alloc, &[Step::Call(builtin, texts)]);
         let want = joined(alloc, &[b"push ", want.as_bytes(), b"\n"]);
-        agrees(rt, name, want, got);
+        agrees(rt, name, Way::Whole, want, got);
+    }
+}
+
+// Returns what comes before the name of the builtin in a warning, and what comes after it.
+fn around(warning: Warning) -> (&'static str, &'static str) {
+    match warning {
+        Warning::Few => ("too few arguments to builtin `", "'"),
+        Warning::Many => ("excess arguments to builtin `", "' ignored"),
+        Warning::NoNumber => ("non-numeric argument to builtin `", "'"),
+        Warning::Empty => ("empty string treated as 0 in builtin `", "'"),
     }
 }
 
 // Returns the expected report on a call that warns.
 fn warning_of(alloc: Global, builtin: &str, row: &Warns) -> Result<Vec<u8>, AllocError> {
-    let (before, after) = row.3;
+    let (before, after) = around(row.3);
     let mut report = Report::new(alloc);
     if let Some(text) = row.2 {
         describe_text(b"push ", text.as_bytes(), &mut report);
@@ -266,6 +274,6 @@ fn warning_of(alloc: Global, builtin: &str, row: &Warns) -> Result<Vec<u8>, Allo
 pub fn warned(rt: &impl Abort, alloc: Global, builtin: &'static str, rows: &[Warns]) {
     for row in rows {
         let got = report_of(alloc, &[Step::Call(builtin, row.1)]);
-        agrees(rt, row.0, warning_of(alloc, builtin, row), got);
+        agrees(rt, row.0, Way::Whole, warning_of(alloc, builtin, row), got);
     }
 }

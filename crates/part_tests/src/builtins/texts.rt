@@ -2,9 +2,8 @@
 //! length of strings", "Searching for substrings", "Extracting substrings", "Translating characters".
 
 use super::Argument;
-use super::steps::{
-    EMPTY, FEW, MANY, NO_NUMBER, Pushes, Row, Step, Warns, pushed, report_of, tried, warned,
-};
+use super::steps::Warning::{Empty, Few, Many, NoNumber};
+use super::steps::{Pushes, Row, Step, Warns, pushed, report_of, tried, warned};
 use crate::shows::shows;
 
 // Each row is a call in line 1 of `a.m4`.
@@ -16,8 +15,8 @@ static LENGTHS: [Pushes; 4] = rows! {
 };
 
 static WARNED_LENGTHS: [Warns; 2] = rows! {
-    "a second argument", &["a", "bcd"], Some("1") => MANY;
-    "no argument", &[], None => FEW;
+    "a second argument", &["a", "bcd"], Some("1") => Many;
+    "no argument", &[], None => Few;
 };
 
 static PLACES: [Pushes; 9] = rows! {
@@ -39,8 +38,8 @@ static FAR_PLACES: [Pushes; 3] = rows! {
 };
 
 static WARNED_FAR_PLACES: [Warns; 2] = rows! {
-    "a third argument", &["abc", "c", "x"], Some("2") => MANY;
-    "no argument", &[], None => FEW;
+    "a third argument", &["abc", "c", "x"], Some("2") => Many;
+    "no argument", &[], None => Few;
 };
 
 static PARTS: [Pushes; 9] = rows! {
@@ -57,12 +56,12 @@ static PARTS: [Pushes; 9] = rows! {
 
 // The same for arguments that are empty, no numbers, missing or in excess.
 static WARNED_PARTS: [Warns; 6] = rows! {
-    "an empty place", &["abc", "", "2"], Some("ab") => EMPTY;
-    "an empty count", &["abc", "1", ""], Some("") => EMPTY;
-    "a place that is no number", &["abc", "x"], None => NO_NUMBER;
-    "a count that is no number", &["abc", "9", "x"], None => NO_NUMBER;
-    "neither is a number", &["abc", "x", "y"], None => NO_NUMBER;
-    "no argument", &[], None => FEW;
+    "an empty place", &["abc", "", "2"], Some("ab") => Empty;
+    "an empty count", &["abc", "1", ""], Some("") => Empty;
+    "a place that is no number", &["abc", "x"], None => NoNumber;
+    "a count that is no number", &["abc", "9", "x"], None => NoNumber;
+    "neither is a number", &["abc", "x", "y"], None => NoNumber;
+    "no argument", &[], None => Few;
 };
 
 static OTHER_PARTS: [Row; 3] = step_rows! {
@@ -99,9 +98,9 @@ static DASHES: [Pushes; 5] = rows! {
 };
 
 static WARNED_DASHES: [Warns; 3] = rows! {
-    "a fourth argument", &["abc", "b", "x", "y"], Some("axc") => MANY;
-    "one argument", &["abc"], Some("abc") => FEW;
-    "no argument", &[], None => FEW;
+    "a fourth argument", &["abc", "b", "x", "y"], Some("axc") => Many;
+    "one argument", &["abc"], Some("abc") => Few;
+    "no argument", &[], None => Few;
 };
 
 // Bytes that are no text, and two ranges of all bytes.

@@ -2,7 +2,7 @@
 
 use super::take_all;
 use crate::report::{Report, joined, repeated};
-use crate::shows::{agrees_by, agrees_cut, shows};
+use crate::shows::{Way, agrees, shows};
 use m4_state::device::{ByteSink, ByteSource, DeviceFault};
 use m4_state::memory::{MemSink, MemSource};
 use m4_state::transfer::{write_all, write_pieces};
@@ -42,7 +42,7 @@ fn all_that_is_given_is_taken(rt: HostRuntime) {
         for &at_most in &SIZES {
             let want = Vec::from_slice(rt.alloc(), want);
             let got = taken_of(rt.alloc(), at_most, fails);
-            agrees_by(&rt, name, at_most, want, got);
+            agrees(&rt, name, Way::By(at_most), want, got);
         }
     }
 }
@@ -129,7 +129,7 @@ fn bytes_are_put_up_to_the_room(rt: HostRuntime) {
             let name = "a writer with room for this";
             let got = put_into(rt.alloc(), room, at_most);
             let want = put_where(rt.alloc(), room);
-            agrees_cut(&rt, name, (at_most, room), want, got);
+            agrees(&rt, name, Way::Cut(at_most, room), want, got);
         }
     }
 }

@@ -4,7 +4,7 @@ use super::{
     BLOCK, BLOCKS, HEAD, LAST, ROOM, after_a_comment, again, describe, read, write_canonical,
 };
 use crate::report::{Report, joined, repeated};
-use crate::shows::{agrees, agrees_by, agrees_cut};
+use crate::shows::{Way, agrees};
 use m4_state::memory::MemSink;
 use std::alloc::{AllocError, Global};
 use std::process::Abort;
@@ -52,7 +52,7 @@ fn files_are_frozen_again(rt: HostRuntime) {
         for &block in &BLOCKS {
             let want = canonical(rt.alloc(), between, issued);
             let got = again(rt.alloc(), bytes, block, ROOM);
-            agrees_by(&rt, name, block, want, got);
+            agrees(&rt, name, Way::By(block), want, got);
         }
     }
 }
@@ -74,7 +74,7 @@ fn a_block_ends_at_each_byte(rt: HostRuntime) {
     for cut in 0..=EACH_LETTER.len() {
         let want = canonical(rt.alloc(), EACH_CANONICAL, b"hi");
         let got = again_after(rt.alloc(), BLOCK.saturating_sub(cut), EACH_LETTER);
-        agrees_cut(&rt, "each letter", (4096, cut), want, got);
+        agrees(&rt, "each letter", Way::Cut(4096, cut), want, got);
     }
 }
 
@@ -132,7 +132,7 @@ fn compare_cut(
     let file = joined(alloc, &[b"V1\n", texts])?;
     let want = canonical(alloc, texts, b"");
     let got = again_after(alloc, BLOCK.saturating_sub(cut), &file);
-    agrees_cut(rt, name, (4096, cut), want, got);
+    agrees(rt, name, Way::Cut(4096, cut), want, got);
     Ok(())
 }
 
@@ -160,7 +160,7 @@ fn a_large_text_comes_back(rt: HostRuntime) -> Result<(), Fail> {
     let file = joined(rt.alloc(), &[HEAD, &texts, LAST])?;
     let want = canonical(rt.alloc(), &texts, b"");
     let got = again(rt.alloc(), &file, 4096, file.len());
-    agrees(&rt, "a text of 1,000,000 bytes", want, got);
+    agrees(&rt, "a text of 1,000,000 bytes", Way::Whole, want, got);
     Ok(())
 }
 
@@ -197,7 +197,7 @@ fn a_writer_fails_after_each_byte(rt: HostRuntime) {
         for &block in &BLOCKS {
             let want = begun_twice(rt.alloc(), FAILING_CANONICAL.split_at(room).0);
             let got = cut_short(rt.alloc(), room, block);
-            agrees_cut(&rt, "a writer that fails", (block, room), want, got);
+            agrees(&rt, "a writer that fails", Way::Cut(block, room), want, got);
         }
     }
 }

@@ -4,7 +4,7 @@
 use super::{BLOCKS, ROOM, again, describe, refused};
 use crate::names_of_m4::{CANONICAL, FILE};
 use crate::report::{Report, joined};
-use crate::shows::{agrees_by, agrees_cut};
+use crate::shows::{Way, agrees};
 use m4_frozen::fault::{FrozenFault, FrozenKind};
 use std::alloc::{AllocError, Global};
 
@@ -42,7 +42,7 @@ fn a_file_of_each_name_is_cut_at_each_byte(rt: HostRuntime) {
         for &block in &BLOCKS {
             let got = refused(rt.alloc(), FILE.as_bytes().split_at(len).0, block, false);
             let want = beginning(rt.alloc(), len);
-            agrees_cut(&rt, "a file of each name", (block, len), want, got);
+            agrees(&rt, "a file of each name", Way::Cut(block, len), want, got);
         }
     }
 }
@@ -53,7 +53,7 @@ fn a_file_of_each_name_is_written_again(rt: HostRuntime) {
         for &block in &BLOCKS {
             let want = joined(rt.alloc(), &[CANONICAL.as_bytes(), b"; written\n"]);
             let got = again(rt.alloc(), file.as_bytes(), block, ROOM);
-            agrees_by(&rt, "a file of each name", block, want, got);
+            agrees(&rt, "a file of each name", Way::By(block), want, got);
         }
     }
 }

@@ -2,7 +2,7 @@
 
 use super::{BLOCK, BLOCKS, after_a_comment, describe, refused};
 use crate::report::{Report, printed};
-use crate::shows::{agrees_by, agrees_cut, shows};
+use crate::shows::{Way, agrees, shows};
 use m4_frozen::fault::FrozenKind::{
     DigitExpected, Newer, NoVersion, NumberTooLarge, OutOfMemory, PrematureEnd, Read,
     SecondVersion, SeparatorExpected, UnknownDirective, VersionZero,
@@ -87,7 +87,7 @@ fn fault_text(
 fn compare(alloc: Global, rt: &impl Abort, row: &Row, fails: bool) {
     for &block in &BLOCKS {
         let got = refused(alloc, row.1.as_bytes(), block, fails);
-        agrees_by(rt, row.0, block, fault_text(alloc, row.2, 0), got);
+        agrees(rt, row.0, Way::By(block), fault_text(alloc, row.2, 0), got);
     }
 }
 
@@ -107,10 +107,10 @@ fn compare_later(alloc: Global, rt: &impl Abort, row: &Row, fails: bool) {
     for cut in 0..=row.1.len() {
         let before = BLOCK.saturating_sub(cut);
         let got = refused_after(alloc, before, row.1, fails);
-        agrees_cut(
+        agrees(
             rt,
             row.0,
-            (4096, cut),
+            Way::Cut(4096, cut),
             fault_text(alloc, row.2, before),
             got,
         );
@@ -151,7 +151,7 @@ fn a_file_is_cut_at_each_byte(rt: HostRuntime) {
         for &block in &BLOCKS {
             let got = refused(rt.alloc(), CUT.split_at(len).0, block, false);
             let want = beginning(rt.alloc(), len);
-            agrees_cut(&rt, "a file", (block, len), want, got);
+            agrees(&rt, "a file", Way::Cut(block, len), want, got);
         }
     }
 }
@@ -187,7 +187,7 @@ fn a_reader_fails_after_each_byte(rt: HostRuntime) {
         for &block in &BLOCKS {
             let got = failed_twice(rt.alloc(), CUT.split_at(len).0, block);
             let want = failed_after(rt.alloc(), len);
-            agrees_cut(&rt, "a reader that fails", (block, len), want, got);
+            agrees(&rt, "a reader that fails", Way::Cut(block, len), want, got);
         }
     }
 }

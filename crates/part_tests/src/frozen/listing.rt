@@ -2,7 +2,7 @@
 
 use super::{BLOCKS, describe, describe_written, read};
 use crate::report::{Report, joined};
-use crate::shows::{agrees_by, agrees_cut};
+use crate::shows::{Way, agrees};
 use m4_frozen::inspector::list;
 use m4_frozen::loading::Loaded;
 use m4_state::memory::MemSink;
@@ -45,7 +45,7 @@ fn files_are_listed(rt: HostRuntime) {
         for &block in &BLOCKS {
             let want = joined(rt.alloc(), &[lines, b"; written\n"]);
             let got = listed(rt.alloc(), bytes, lines.len(), block);
-            agrees_by(&rt, name, block, want, got);
+            agrees(&rt, name, Way::By(block), want, got);
         }
     }
 }
@@ -56,7 +56,7 @@ fn a_writer_fails_after_each_byte(rt: HostRuntime) {
         for room in 0..lines.len() {
             let want = joined(rt.alloc(), &[lines.split_at(room).0, b"; write fault\n"]);
             let got = listed(rt.alloc(), bytes, room, 3);
-            agrees_cut(&rt, name, (3, room), want, got);
+            agrees(&rt, name, Way::Cut(3, room), want, got);
         }
     }
 }

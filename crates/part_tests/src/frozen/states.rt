@@ -3,7 +3,7 @@
 use super::{HEAD, LAST, ROOM, describe, read, write_canonical};
 use crate::given::Given::Text;
 use crate::report::{Report, joined};
-use crate::shows::{agrees, shows};
+use crate::shows::{Way, agrees, shows};
 use crate::state::steps::{Row, Step, state_after};
 use m4_frozen::loading::Loaded;
 use m4_state::memory::MemSink;
@@ -35,7 +35,7 @@ fn states_are_frozen(rt: HostRuntime) {
             rt.alloc(),
             &[HEAD, between.as_bytes(), LAST, b"; written\n"],
         );
-        agrees(&rt, name, want, frozen(rt.alloc(), steps));
+        agrees(&rt, name, Way::Whole, want, frozen(rt.alloc(), steps));
     }
 }
 

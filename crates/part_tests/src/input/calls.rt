@@ -9,7 +9,7 @@ static LISTS: [Row; 8] = input_rows! {
     "a list follows a name", "f(", [Next, SeesParen] => "name f\nlist\n";
     "no list follows a blank", "f (", [Next, SeesParen] => "name f\nno list\n";
     "no list follows at the end", "f", [Next, SeesParen] => "name f\nno list\n";
-    "a parenthesis that is a quote", "f(", [Next, SeesParen] => "name f\nno list\n", quotes: ("(", ")");
+    "a parenthesis that is a quote", "f(", [Next, SeesParen] => "name f\nno list\n", quotes: Some(("(", ")"));
     "a parenthesis that begins a comment", "f(*", [Next, SeesParen] => "name f\nno list\n", comments: STARS;
     "a parenthesis that begins no comment", "f(x", [Next, SeesParen] => "name f\nlist\n", comments: STARS;
     "a parenthesis that is seen is not taken", "(", [SeesParen, Next] => "list\nbyte (\n";
@@ -48,12 +48,8 @@ static WRAPPED: [Row; 3] = input_rows! {
 };
 
 #[test]
-fn text_that_was_saved(rt: HostRuntime) {
-    tried(&rt, rt.alloc(), &WRAPPED);
-}
-
-#[test]
 fn lists_that_follow_and_other_answers(rt: HostRuntime) {
+    tried(&rt, rt.alloc(), &WRAPPED);
     tried(&rt, rt.alloc(), &LISTS);
     tried(&rt, rt.alloc(), &OTHERS);
 }

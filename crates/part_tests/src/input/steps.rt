@@ -7,7 +7,7 @@ use super::looks::describe_look;
 use super::{BLOCKS, describe, describe_fault};
 use crate::given::{Given, delimited, describe_definition, made};
 use crate::report::{Report, repeated};
-use crate::shows::agrees_by;
+use crate::shows::{Way, agrees};
 use m4_input::delims::Delims;
 use m4_input::fault::InputFault;
 use m4_input::front::Look;
@@ -65,8 +65,8 @@ pub enum Step {
     Taken,
 }
 
-/// Two delimiters, the first and the last.
-pub type Pair = (&'static str, &'static str);
+/// Two delimiters, the first and the last, or none for the usual ones.
+pub type Pair = Option<(&'static str, &'static str)>;
 
 /// A file a.m4, the numbers of bytes that its reader returns at a time, and whether it fails at the end, or a text that
 /// was saved; steps and their results.
@@ -85,8 +85,8 @@ pub struct Row {
 /// A row with the usual delimiters, whose file is read in one block.
 pub const PLAIN: Row = Row {
     name: "",
-    quotes: ("`", "'"),
-    comments: ("#", "\n"),
+    quotes: None,
+    comments: None,
     file: "",
     blocks: &[4096],
     fails: false,
@@ -102,13 +102,13 @@ pub const BLOCKED: Row = Row {
 };
 
 /// Quotes of two bytes each.
-pub const ANGLES: Pair = ("<<", ">>");
+pub const ANGLES: Pair = Some(("<<", ">>"));
 
 /// Comments whose begin begins with a parenthesis.
-pub const STARS: Pair = ("(*", "*)");
+pub const STARS: Pair = Some(("(*", "*)"));
 
 /// Quotes or comments that are disabled.
-pub const NONE: Pair = ("", "");
+pub const NONE: Pair = Some(("", ""));
 
 // More tokens than any row has, and more blocks.
 const MOST: usize = 100;
@@ -386,7 +386,9 @@ fn input_of(alloc: Global, row: &Row) -> Result<Input, AllocError> {
 fn see(alloc: Global, row: &Row, block: usize, report: &mut Report) -> Result<(), StateFault> {
     let mut reader = MemSource::new(row.file.as_bytes(), block.max(1), row.fails);
     let mut input = input_of(alloc, row)?;
-    let state = delimited(alloc, row.quotes, row.comments)?;
+    let quotes = row.quotes.unwrap_or(("`", "'"));
+    let comments = row.comments.unwrap_or(("#", "\n"));
+    let state = delimited(alloc, quotes, comments)?;
     let delims = Delims::of(&state);
     for step in row.steps {
         answer(alloc, &mut input, &mut reader, &delims, *step, report);
@@ -401,7 +403,7 @@ fn tried_in(rt: &impl Abort, alloc: Global, row: &Row, block: usize) {
         report.refuse();
     }
     let want = Vec::from_slice(alloc, row.want.as_bytes());
-    agrees_by(rt, row.name, block, want, report.text());
+    agrees(rt, row.name, Way::By(block), want, report.text());
 }
 
 /// Tries each row with each number of bytes that its reader returns at a time.

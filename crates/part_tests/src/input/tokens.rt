@@ -1,6 +1,6 @@
 //! Texts and their tokens, for different numbers of bytes that the reader returns at a time.
 
-use super::steps::{NONE, Row, tried};
+use super::steps::{ANGLES, NONE, Row, tried};
 
 static ROWS: [Row; 10] = input_rows! {
     BLOCKED:
@@ -12,11 +12,11 @@ static ROWS: [Row; 10] = input_rows! {
     "a comment is copied with its delimiters", "x# it's `one\ny", [Rest] =>
         "name x\ncomment # it's `one\n\nname y\nend\n";
     "delimiters of several bytes", "<<a<b<<c>d>>>></*e*f*//", [Rest] =>
-        "string a<b<<c>d>>\nbyte <\ncomment /*e*f*/\nbyte /\nend\n", quotes: ("<<", ">>"), comments: ("/*", "*/");
+        "string a<b<<c>d>>\nbyte <\ncomment /*e*f*/\nbyte /\nend\n", quotes: ANGLES, comments: Some(("/*", "*/"));
     "delimiters that are disabled", "`a'#", [Rest] =>
         "byte `\nname a\nbyte '\nbyte #\nend\n", quotes: NONE, comments: NONE;
     "a comment goes before a string", "axbcab", [Rest] =>
-        "comment axb\nname cab\nend\n", quotes: ("a", "b"), comments: ("a", "b");
+        "comment axb\nname cab\nend\n", quotes: Some(("a", "b")), comments: Some(("a", "b"));
     "a string without an end", "\n\n`y `z'\n", [Rest] => "byte \n\nbyte \n\nend in string of line 3\nend\n";
     "a comment without an end", "# no newline", [Rest] => "end in comment of line 1\nend\n";
 };

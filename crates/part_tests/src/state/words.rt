@@ -3,6 +3,7 @@
 use crate::shows::shows;
 use m4_state::words::are_equal;
 use std::alloc::{AllocError, Global};
+use std::process::Abort;
 
 // A row's name, two byte strings, and what is said of them.
 type Row = (&'static str, &'static [u8], &'static [u8], &'static [u8]);
@@ -35,16 +36,15 @@ fn said(alloc: Global, a: &[u8], b: &[u8]) -> Result<Vec<u8>, AllocError> {
     Vec::from_slice(alloc, text)
 }
 
-#[test]
-fn few_bytes_are_equal_or_not(rt: HostRuntime) {
-    for &(name, a, b, want) in &FEW {
-        shows(&rt, name, want, said(rt.alloc(), a, b));
+// Compares what is said of each row.
+fn compare(rt: &impl Abort, alloc: Global, rows: &[Row]) {
+    for &(name, a, b, want) in rows {
+        shows(rt, name, want, said(alloc, a, b));
     }
 }
 
 #[test]
-fn words_are_equal_or_not(rt: HostRuntime) {
-    for &(name, a, b, want) in &WORDS {
-        shows(&rt, name, want, said(rt.alloc(), a, b));
-    }
+fn bytes_are_equal_or_not(rt: HostRuntime) {
+    compare(&rt, rt.alloc(), &FEW);
+    compare(&rt, rt.alloc(), &WORDS);
 }
