@@ -1,11 +1,12 @@
 //! Makes a call: a text expands, a builtin acts with its arguments, a placeholder only warns. Each
 //! builtin has one line in [`row`], and its function in the module of its chapter.
 
-ghost use Rattle.std.specs.Prelude.{◌≡◌, IfOk, OnOk, [], length, nat_lt};
+ghost use Rattle.std.specs.Prelude.{◌≡◌, IfOk, IfSome, IfNone, OnOk, Some, [], length, nat_lt};
 ghost use Rattle.std.specs.List.{AllByRecursion};
 ghost use Rattle.m4_state.specs.Definition.{IsDefinition};
 ghost use Rattle.m4_state.specs.Columns.{most_of};
 ghost use Rattle.m4_state.specs.declared.definition.Def.TheVariants as defs;
+ghost use Rattle.m4_input.specs.declared.pushed.Pushed.TheVariants as pushes;
 ghost use Rattle.m4_builtins.specs.Acted.{IsPushed, nothing};
 ghost use Rattle.m4_builtins.specs.Args.{IsArg};
 ghost use Rattle.m4_builtins.specs.Act as spec;
@@ -29,6 +30,7 @@ use crate::printing::{dumpdef, errprint, file, line};
 use crate::texts::{index, len, substr};
 use crate::translit::translit;
 use m4_state::builtin::{Builtin, Row};
+use m4_state::bytes::Bytes;
 use m4_state::definition::Def;
 use m4_state::state::State;
 use std::alloc::{AllocError, Global};
@@ -52,38 +54,45 @@ pub fn act(
     ensures valid { IfOk result (λ e. IsPushed e.push) }
 {
     let mut effect = EffectBuffer::new(alloc);
-    act_on(
-        &mut effect,
-        def,
-        args.name.as_slice(),
-        args.list.as_slice(),
-        place,
-        state,
-    )?;
+    let list = args.list.as_slice();
+    if let Some(text) = act_on(&mut effect, def, &args.name, list, place, state)? {
+        effect.give_shared(text)?;
+    }
     Ok(effect.into_effect())
 }
 
-/// Makes a call whose name and arguments are borrowed, as [`act`] does, and fills an effect that is clear.
+/// Makes a call whose name and arguments are borrowed, as [`act`] does, and fills an effect that is clear. A text without
+/// a dollar is its own expansion: it is returned, and is all that the call leaves to do.
 #[doc(hidden)]
-pub fn act_on(
+#[inline(always)]
+pub fn act_on<'a>(
     effect: &mut EffectBuffer,
-    def: &Def,
-    name: &[u8],
+    def: &'a Def,
+    name: &Bytes,
     list: &[Arg],
     place: &Place,
     state: &mut State,
-) -> Result<(), BuiltinFault>
+) -> Result<Option<&'a Bytes>, BuiltinFault>
     requires fresh { effect.old ≡ nothing }
     requires definition { IsDefinition def.now }
     requires args { AllByRecursion IsArg list.now }
     // exact steps: the new state and the effect
-    ensures { OnOk result (spec.act def.now name.now list.now place.now state.old
-        ≡ record { state = state.new; effect = effect.new }) }
+    ensures acts { IfOk result (λ own. IfNone own (spec.act def.now name.now list.now place.now state.old
+        ≡ record { state = state.new; effect = effect.new })) }
+    ensures own { IfOk result (λ own. IfSome own (λ text. spec.act def.now name.now list.now place.now state.old
+        ≡ record { state = state.new; effect = record effect.new { push = Some (pushes.Text text.now) } })) }
+    ensures left { IfOk result (λ own. IfSome own (λ text. effect.new ≡ nothing)) }
 {
+    if let Def::Text(text) = def {
+        if effect.give_expansion(text, name, list, state.quotes())? {
+            return Ok(None);
+        }
+        return Ok(Some(text));
+    }
     let mut step = start(effect, def, name, list, place, state)?;
     loop {
         match step {
-            Step::Done => return Ok(()),
+            Step::Done => return Ok(None),
             Step::On(builtin, list) => step = act_builtin(effect, builtin, list, place, state)?,
         }
     }

@@ -1,7 +1,7 @@
 //! An effect that calls fill in turn, with the memory of the ones before.
 
 ghost use Rattle.std.specs.Prelude.{◌≡◌, ◌==◌, ◌≤◌, ◌++◌, [], OnOk, IfSome, Some, None, true, false, option_copied};
-ghost use Rattle.std.specs.Prelude.{length, not};
+ghost use Rattle.std.specs.Prelude.{◌⊎◌, IfOk, length, not};
 ghost use Rattle.m4_input.specs.Ascii.{dollar};
 ghost use Rattle.m4_input.specs.Token.{run_length};
 ghost use Rattle.m4_builtins.specs.QuotesView.{pair_of};
@@ -191,13 +191,15 @@ impl EffectBuffer {
         }
     }
 
-    /// Returns the text that is inserted before the input, if it was made here.
+    /// Returns the text that is inserted before the input, if it was made here: an empty one if nothing is inserted.
     pub fn made_text(&self) -> Option<&[u8]>
-        ensures { IfSome result (λ x. self.now.push ≡ Some (pushes.Text x.now)) }
+        ensures { IfSome result (λ x. (self.now.push ≡ Some (pushes.Text x.now))
+            ⊎ ((self.now.push ≡ None) × (x.now ≡ []))) }
     {
         match self.push {
             Push::Buffer { is_made: true } => Some(self.buffer.as_slice()),
-            Push::Buffer { is_made: false } | Push::Value(_) => None,
+            Push::Buffer { is_made: false } => Some(&[]),
+            Push::Value(_) => None,
         }
     }
 
@@ -325,29 +327,33 @@ impl EffectBuffer {
         }
     }
 
-    /// Inserts a text with a call's name and arguments substituted, by these quotes. It is the text itself, shared, if
-    /// it has no dollar.
+    /// Inserts a text with a call's name and arguments substituted, by these quotes, and returns whether it did. It does
+    /// nothing if the text has no dollar, and so is its own expansion.
     #[inline(always)]
     pub(crate) fn give_expansion(
         &mut self,
         text: &Bytes,
-        name: &[u8],
+        name: &Bytes,
         list: &[Arg],
         quotes: (&[u8], &[u8]),
-    ) -> Result<(), BuiltinFault>
+    ) -> Result<bool, BuiltinFault>
         // exact steps: the text with the arguments substituted
-        ensures { OnOk result (self.new ≡ record self.old
+        ensures made { IfOk result (λ made. made ≡ true → self.new ≡ record self.old
             { push = Some (pushes.Text (subst text.now name.now list.now (pair_of quotes.entry))) }) }
+        ensures own { IfOk result (λ made. made ≡ false
+            → (self.new ≡ self.old) × (subst text.now name.now list.now (pair_of quotes.entry) ≡ text.now)) }
     {
         let bytes = text.as_slice();
         let plain = plain_len(bytes);
         if plain == bytes.len() {
-            return Ok(self.give_shared(text)?);
+            return Ok(false);
         }
-        self.give_substituted(bytes, plain, name, list, quotes)
+        self.give_substituted(bytes, plain, name.as_slice(), list, quotes)?;
+        Ok(true)
     }
 
-    /// Inserts a text with the same substituted. It has so many bytes before its first dollar.
+    /// Inserts a text with the same substituted. It has so many bytes before its first dollar. Not inlined, so that the
+    /// way of a text without one is short.
     #[inline(never)]
     fn give_substituted(
         &mut self,

@@ -5,14 +5,12 @@
 //! length. So these builtins do not make the call themselves: they return a [`Step`], and
 //! [`crate::act::act`] continues in a loop.
 
-ghost use Rattle.std.specs.Prelude.{◌≡◌, ◌<◌, ℕ, IfOk, OnOk, length};
+ghost use Rattle.std.specs.Prelude.{◌≡◌, ◌<◌, ℕ, IfOk, length};
 ghost use Rattle.std.specs.List.{AllByRecursion};
 ghost use Rattle.m4_builtins.specs.Act.{act, goes_on, nothing};
 ghost use Rattle.m4_builtins.specs.Args.{IsArg};
 ghost use Rattle.m4_builtins.specs.Indirect as spec;
-ghost use Rattle.m4_builtins.specs.Messages.{unsupported};
 ghost use Rattle.m4_builtins.specs.Steps.{LeadsTo, IsShorter};
-ghost use Rattle.m4_builtins.specs.Warned.{with_messages};
 
 use crate::args::Arg;
 use crate::effect_buffer::EffectBuffer;
@@ -21,9 +19,9 @@ use crate::messages::Warning;
 use crate::naming::name_in;
 use crate::place::Place;
 use m4_state::builtin::Builtin;
+use m4_state::bytes::Bytes;
 use m4_state::definition::Def;
 use m4_state::state::State;
-use std::alloc::AllocError;
 
 /// A call that is finished, or the call that continues it.
 #[derive(Drop)]
@@ -40,7 +38,7 @@ pub(crate) enum Step<'a> {
 pub(crate) fn start<'a>(
     effect: &mut EffectBuffer,
     def: &Def,
-    name: &[u8],
+    name: &Bytes,
     list: &'a [Arg],
     place: &Place,
     state: &State,
@@ -53,27 +51,17 @@ pub(crate) fn start<'a>(
 {
     match def {
         Def::Text(text) => {
-            effect.give_expansion(text, name, list, state.quotes())?;
+            if !effect.give_expansion(text, name, list, state.quotes())? {
+                effect.give_shared(text)?;
+            }
             Ok(Step::Done)
         }
         Def::Builtin(builtin) => Ok(Step::On(*builtin, list)),
         Def::Placeholder(other) => {
-            warn_of_placeholder(effect, other.as_slice(), place)?;
+            effect.add_warning(place, Warning::Unsupported(other.as_slice()))?;
             Ok(Step::Done)
         }
     }
-}
-
-/// Adds the warning on a placeholder of this name. Not inlined, since hardly any call is one of a placeholder.
-#[inline(never)]
-fn warn_of_placeholder(
-    effect: &mut EffectBuffer,
-    name: &[u8],
-    place: &Place,
-) -> Result<(), AllocError>
-    ensures { OnOk result (effect.new ≡ with_messages effect.old (unsupported place.now name.now)) }
-{
-    effect.add_warning(place, Warning::Unsupported(name))
 }
 
 /// Calls the macro that the first argument names. Manual: "Indirect call of macros".
@@ -92,8 +80,8 @@ pub(crate) fn indir<'a>(
     let Some((name, rest)) = name_in(effect, list, place, Builtin::Indir)? else {
         return Ok(Step::Done);
     };
-    let Some(def) = state.top(name) else {
-        effect.add_warning(place, Warning::UnknownMacro(name))?;
+    let Some(def) = state.top(name.as_slice()) else {
+        effect.add_warning(place, Warning::UnknownMacro(name.as_slice()))?;
         return Ok(Step::Done);
     };
     start(effect, def, name, rest, place, state)
@@ -115,8 +103,8 @@ pub(crate) fn builtin<'a>(
     let Some((name, rest)) = name_in(effect, list, place, Builtin::IndirBuiltin)? else {
         return Ok(Step::Done);
     };
-    let Some(builtin) = Builtin::by_name(name) else {
-        effect.add_warning(place, Warning::UnknownBuiltin(name))?;
+    let Some(builtin) = Builtin::by_name(name.as_slice()) else {
+        effect.add_warning(place, Warning::UnknownBuiltin(name.as_slice()))?;
         return Ok(Step::Done);
     };
     Ok(Step::On(builtin, rest))

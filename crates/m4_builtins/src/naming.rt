@@ -42,7 +42,7 @@ pub(crate) fn define(
         return Ok(());
     };
     let def = definition_in(rest)?;
-    state.define_borrowed(name, def)?;
+    state.define_borrowed(name.as_slice(), def)?;
     Ok(())
 }
 
@@ -63,7 +63,7 @@ pub(crate) fn pushdef(
         return Ok(());
     };
     let def = definition_in(rest)?;
-    state.push_borrowed(name, def)?;
+    state.push_borrowed(name.as_slice(), def)?;
     Ok(())
 }
 
@@ -74,13 +74,13 @@ pub(crate) fn name_in<'a>(
     list: &'a [Arg],
     place: &Place,
     builtin: Builtin,
-) -> Result<Option<(&'a [u8], &'a [Arg])>, AllocError>
+) -> Result<Option<(&'a Bytes, &'a [Arg])>, AllocError>
     requires { effect.old ≡ nothing }
     ensures { IfOk result (λ read. ReadsName list.now place.now builtin
         (option_map (λ r. (r.0.now, r.1.now)) read) effect.new) }
 {
     match list.split_first() {
-        Some((Arg::Text(name), rest)) => Ok(Some((name.as_slice(), rest))),
+        Some((Arg::Text(name), rest)) => Ok(Some((name, rest))),
         Some((Arg::Definition(_), _)) => {
             effect.add_warning(place, Warning::BadName(builtin))?;
             Ok(None)

@@ -1,5 +1,5 @@
 -- Acts: what a call leaves is what the definitions' move leaves.
-use Rattle.std.proofs.Common.{◌≡◌, Bool, true, false, Some, None, ◌++◌, length, ℕ, List, [], ◌∷◌, refl, sym, ap, ◌∙◌}
+use Rattle.std.proofs.Common.{◌≡◌, Bool, true, false, Some, None, ◌++◌, length, ℕ, List, [], ◌∷◌, refl, sym, ap, ◌∙◌, subst}
 use Rattle.std.proofs.Common.{append-nil, append_assoc}
 use Rattle.m4_state.specs.State.{State}
 use Rattle.m4_input.specs.Pending.{Pending, text_of, line_length}
@@ -10,6 +10,7 @@ use Rattle.std.specs.Prelude.{◌≢◌, Result, Ok, Err, IfOk, OnOk}
 use Rattle.m4_engine.specs.declared.turned.Turned.{Turned}
 use Rattle.m4_builtins.specs.declared.fault.BuiltinFault.{BuiltinFault as TurnFault}
 use Rattle.m4_engine.specs.declared.turned.Turned.TheVariants as turns
+use Rattle.m4_engine.specs.declared.turned.TurnEnd.{TurnEnd}
 use Rattle.m4_engine.specs.declared.role.Role.{Role}
 use Rattle.m4_engine.specs.declared.role.Role.TheVariants.{Closing}
 use Rattle.m4_engine.specs.Args.{dropped_if_any, with_argument, end_argument, role_of, take_byte, take_closing}
@@ -23,9 +24,10 @@ use Rattle.m4_engine.specs.Expand.{take_other}
 use Rattle.m4_engine.specs.Engine.{Engine, so_far_of, mode_of, kept_in, outer_of, here_of, configuration, begun_in}
 use Rattle.m4_engine.specs.Engine.{with_made, ending_in, ending_argument, with_open_call}
 use Rattle.m4_engine.specs.Engine.{IsReady}
-use Rattle.m4_engine.specs.Turns.{called_within, close_in, step, moved, Makes, IsMade, StaysBy, Steps, StepsBy, IsTurned}
-use Rattle.m4_engine.specs.Turns.{Turns, MayFollow, Moving, Extended, line_move, Moves}
+use Rattle.m4_engine.specs.Turns.{called_within, cause_of_end, close_in, step, moved, Makes, IsGiven, IsMade, IsTaken, StaysBy, Steps, StepsBy}
+use Rattle.m4_engine.specs.Turns.{Turns, IsTurned, MayFollow, Moving, Extended, line_move, Moves, Stays}
 use Rattle.m4_engine.proofs.Cases.{skip_or_push, mode_after_call}
+use Rattle.m4_engine.proofs.Inputs.{unpushed}
 
 -- the state of an expansion after a call with these effects
 abbrev after : Acted → List ℕ → List ℕ → Engine → Pending → Expansion
@@ -154,6 +156,36 @@ called_exits e e1 c a p code h x i o m =
     (ap (λ (k : Stacked Expansion Kept). (k.here).so_far)
     (around a o m e.limits e.state e.saved e.calls e.open_calls e.output e.messages p p)
     ∙ ap (λ (d : Engine). so_far_of o m d) (sym i))
+
+-- a call that was made, and whose effect was given, as its move
+pub given_steps : (e e1 : Engine) (c : Call) (a : Acted) (i j : Held) (t : Turned)
+    → act c.definition c.name c.done c.place e.state ≡ a
+    → e1 ≡ with_made (a.effect).messages (a.effect).output (a.effect).wrap (record e { state = a.state })
+    → IsTaken i → IsGiven t a.effect i j → StepsBy (Ok t) e e1 i j (called_within e.open_calls c)
+given_steps e e1 c a i j turns.GoesOn h m k g = record {
+  moves = λ z more u o l. called_goes e e1 c a (longer z more i.pending) (longer z more j.pending) h g.0 g.1 m (g.2 z more) o l;
+  ready = g.3;
+  limits = ap (λ (x : Engine). x.limits) m;
+  made = tt;
+}
+given_steps e e1 c a i j turns.SkipsLine h m k g = record {
+  moves = λ z more u o l.
+      subst (λ (x : Held). called_within e.open_calls c (here_of o l e (longer z more i.pending))
+      ≡ line_move e1.open_calls (here_of o l e1 (longer z more x.pending))) (sym g.2)
+      (called_skips e e1 c a (longer z more i.pending) h g.0 g.1 m o l);
+  ready = subst (Stays i) (sym g.2) (unpushed i k).1;
+  limits = ap (λ (x : Engine). x.limits) m;
+  made = tt;
+}
+given_steps e e1 c a i j turns.NeedsMore h m k g = absurd g
+given_steps e e1 c a i j (turns.Ends end) h m k g = record {
+  moves = λ z more u o l.
+      called_exits e e1 c a (longer z more i.pending) g.0 h g.2 m o l
+      ∙ ap (λ (x : TurnEnd). let d : Ended = record { so_far = so_far_of o l e1; reason = Ends (cause_of_end x) } in Stops (Halted d)) (sym g.1);
+  ready = tt;
+  limits = ap (λ (x : Engine). x.limits) m;
+  made = tt;
+}
 
 abbrev head_or : Call → List Call → Call
 head_or c [] = c

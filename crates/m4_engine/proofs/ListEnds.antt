@@ -20,9 +20,9 @@ use Rattle.m4_engine.specs.Expansion.{Call}
 use Rattle.m4_engine.specs.Expand.{take_other}
 use Rattle.m4_engine.specs.OpenCalls.{Goes}
 use Rattle.m4_engine.specs.Engine.{Engine, outer_of, mode_of, here_of, configuration, ending_in, ending_argument, IfHead, IsReady}
-use Rattle.m4_engine.specs.Turns.{step, close_in, StepsBy, Turns}
+use Rattle.m4_engine.specs.Turns.{step, close_in, Completes, IsTaken, StepsBy, Turns}
 use Rattle.m4_engine.specs.Lookahead.{IsEndByte, IsEndIn}
-use Rattle.m4_engine.proofs.Acts.{closing_byte}
+use Rattle.m4_engine.proofs.Acts.{closing_byte, closing_result, ending_opens, limits_by}
 use Rattle.m4_engine.proofs.Seen.{byte_has_none}
 use Rattle.m4_engine.proofs.Turning.{found_steps_at}
 
@@ -114,3 +114,27 @@ closing_turn e e1 i k j r f h g s = by e.open_calls refl h
     by (d ∷ ds) c h =
         let t = closing_byte e e1 k j r d ds h.byte c (h.ends).0 (h.ends).1 s in
         found_steps_at e e1 (Byte h.byte) 1 i k j r f h.scanned g t.moves t
+
+ending_output : (cs : List Call) (e : Engine) → (ending_in cs e).output ≡ e.output
+ending_output [] e = refl
+ending_output (d ∷ ds) e = refl
+
+-- the same with the call that is then to be made
+pub closing_completes : (e e1 : Engine) (i k : Held) → (i.pending).definition ≡ None
+    → IsEndIn ends.List e.open_calls e.state (i.pending).may_follow (text_of i.pending) → IsTaken k
+    → k ≡ record i { pending = consumed 1 i.pending } → e1 ≡ ending_argument e → Completes e e1 i k
+closing_completes e e1 i k f h t g a =
+    let n = ending_opens e (end_inside ends.List e.open_calls e.state (i.pending).may_follow (text_of i.pending) h).1 in
+    record {
+      call = n.0;
+      around = n.1;
+      innermost = a ∙ n.2;
+      output = ap (λ (x : Engine). x.output) a ∙ ending_output e.open_calls e;
+      taken = t;
+      turns = λ r new j s. closing_turn e new i k j r f h g (record {
+        moves = closing_result (k.pending).may_follow e n.1 new n.0 (λ z more. longer z more k.pending) j.pending r n.2 s.moves;
+        ready = s.ready;
+        limits = limits_by r _ _ _ s.limits n.3;
+        made = s.made;
+      });
+    }

@@ -1,6 +1,6 @@
 -- Lookahead: the next token, as it was recognised before a turn consumes it.
 -- Not believed: it connects the code with `Expand`; the turns' lemmas prove that they agree.
--- Words: IsExpansion, IsCalled, Recognises, len_with, IsNamed, IsNameTaken, IsAhead, IsFirst, IsLeftOutside, IsEndByte,
+-- Words: IsExpansion, IsCalled, Recognises, len_with, IsNamed, IsNameTaken, IsAhead, IsRare, IsFirst, IsLeftOutside, IsEndByte,
 -- IsEndIn, IsNext, IsLookaheadOf, IsAfter.
 use Rattle.std.specs.Prelude.{◌≡◌, ◌≢◌, ◌<◌, ◌≤◌, ◌+◌, Bool, true, false, ℕ, List, [], ◌∷◌, None, Some, length}
 use Rattle.std.specs.Prelude.{take, drop}
@@ -77,6 +77,15 @@ IsAhead aheads.End n c s m x = (n ≡ 0) × (scan s.quotes s.comments m x ≡ Fo
 IsAhead aheads.UnendedString n c s m x = (n ≡ 0) × (scan s.quotes s.comments m x ≡ Broken InString)
 IsAhead aheads.UnendedComment n c s m x = (n ≡ 0) × (scan s.quotes s.comments m x ≡ Broken InComment)
 IsAhead aheads.Undecided n c s m x = (n ≡ 0) × IsUndecided s m x
+
+-- few turns find this token
+abbrev pub IsRare : Lookahead → Type 0
+IsRare aheads.ClosesList = ⊥
+IsRare aheads.Expansion = ⊥
+IsRare aheads.LineSkip = ⊥
+IsRare aheads.Call = ⊥
+IsRare aheads.List = ⊥
+IsRare a = Unit {0}
 
 -- the token, with the next call c, is the first one of a text
 abbrev pub IsFirst : FirstToken → Call → State → Bool → List ℕ → Type 0

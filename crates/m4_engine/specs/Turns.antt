@@ -1,13 +1,15 @@
 -- Turns: one turn of the machine and its steps, as a move of the definitions.
 -- Not believed: it connects the code with `Expand`; the turns' lemmas prove that they agree.
-use Rattle.std.specs.Prelude.{◌≡◌, Option, None, ℕ, Bool, true, false, List, [], ◌∷◌, Result, IfOk, OnOk}
+use Rattle.std.specs.Prelude.{◌≡◌, Option, None, Some, ℕ, Bool, true, false, List, [], ◌∷◌, Result, Ok, IfOk, OnOk}
 use Rattle.m4_input.specs.Pending.{Pending, text_of, line_length}
 use Rattle.m4_engine.specs.Expansion.{Call, Kept, Expansion, Ended, Ends, NeedsInput}
 use Rattle.m4_input.specs.declared.pushed.Pushed.{Pushed}
+use Rattle.m4_input.specs.declared.pushed.Pushed.TheVariants as pushes
 use Rattle.m4_input.specs.Input.{Held, longer}
 use Rattle.m4_engine.specs.declared.ending.Cause.{Cause}
 use Rattle.m4_engine.specs.declared.ending.Cause.TheVariants as causes
 use Rattle.m4_engine.specs.declared.turned.Turned.{Turned}
+use Rattle.m4_builtins.specs.declared.effect.Effect.{Effect}
 use Rattle.m4_builtins.specs.declared.fault.BuiltinFault.{BuiltinFault as TurnFault}
 use Rattle.m4_engine.specs.declared.turned.TurnEnd.{TurnEnd}
 use Rattle.m4_engine.specs.declared.turned.TurnEnd.TheVariants as turn_ends
@@ -17,7 +19,7 @@ use Rattle.m4_engine.specs.Nesting.{Turn, GoOn, Close, Halted}
 use Rattle.m4_engine.specs.OpenCalls.{Move, Stops, Goes, pop, take_turn}
 pub use Rattle.m4_engine.specs.Moments.{moved}
 use Rattle.m4_engine.specs.Expand.{turn, join, called, with_value, skip_line}
-use Rattle.m4_engine.specs.Engine.{Engine, so_far_of, kept_in, outer_of, here_of, configuration, IsReady}
+use Rattle.m4_engine.specs.Engine.{Engine, so_far_of, kept_in, outer_of, here_of, configuration, with_open_call, IsReady}
 
 -- a turn's effect on the stack of open calls
 abbrev pub step : List Kept → Turn Expansion Kept Ended → Move Expansion Kept Ended
@@ -119,6 +121,19 @@ abbrev pub close_in : List Call → Expansion → Turn Expansion Kept Ended
 close_in [] s = GoOn s
 close_in (c ∷ cs) s = Close (end_argument c s)
 
+-- the effect of a call, if a text that is its own expansion was left to be pushed
+abbrev pub with_own : Option (List ℕ) → Effect → Effect
+with_own None v = v
+with_own (Some text) v = record v { push = Some (pushes.Text text) }
+
+-- what a call left to do was done, and the outcome of its turn is so
+abbrev pub IsGiven : Turned → Effect → Held → Held → Type 0
+IsGiven turns.GoesOn v i j =
+    (v.exit ≡ None) × (v.skip ≡ false) × Pushes i.pending j.pending v.push × Stays i j
+IsGiven turns.SkipsLine v i j = (v.exit ≡ None) × (v.skip ≡ true) × (j ≡ i)
+IsGiven turns.NeedsMore v i j = ⊥
+IsGiven (turns.Ends end) v i j = (code : ℕ) × (end ≡ turn_ends.Exited code) × (v.exit ≡ Some code) × (j ≡ i)
+
 -- a turn that needs more bytes: nothing was done, and the bytes in hand don't decide the definitions' turn
 pub record Needs (old new : Engine) (i j : Held) : Type 0 where
   pub engine : new ≡ old
@@ -138,3 +153,18 @@ pub record Turns (result : Result Turned TurnFault) (old new : Engine) (i j : He
   pub ready : IfOk result (StaysBy i j)
   pub limits : OnOk result (new.limits ≡ old.limits)
   pub made : IfOk result (IsTurned old new i j)
+
+-- a turn up to a call whose arguments are complete: that call is the innermost, and to make it completes the turn
+pub record Completes (old mid : Engine) (i k : Held) : Type 0 where
+  pub call : Call
+  pub around : Engine
+  pub innermost : mid ≡ with_open_call call around
+  pub output : mid.output ≡ old.output
+  pub taken : IsTaken k
+  pub turns : (result : Result Turned TurnFault) (new : Engine) (j : Held)
+      → StepsBy result around new k j (called_within around.open_calls call) → Turns result old new i j
+
+-- a turn was made, or all of it but such a call
+abbrev pub Begins : Option Turned → Engine → Engine → Held → Held → Type 0
+Begins (Some t) old new i j = Turns (Ok t) old new i j
+Begins None old new i j = Completes old new i j

@@ -208,29 +208,21 @@ impl OpenCall {
         self.args.is_empty()
     }
 
-    /// Gives up the memory for arguments, of a call that was made.
-    pub fn give_memory(&mut self) -> (Vec<Arg>, TextBuffer) {
-        let alloc = self.bytes.alloc();
-        self.count = 0;
-        self.parentheses = 0;
-        let args = std::mem::replace(&mut self.args, Vec::new(alloc));
-        let bytes = std::mem::replace(&mut self.bytes, TextBuffer::new(alloc));
-        (args, bytes)
-    }
-
     /// Takes the memory for arguments of a call that was made, if this one has none.
-    pub fn take_memory(&mut self, memory: (Vec<Arg>, TextBuffer))
+    #[inline(always)]
+    pub fn take_memory(&mut self, made: &mut OpenCall)
         ensures { self.new ≡ self.old }
     {
         if !self.args.is_empty() {
             return;
         }
-        let (args, bytes) = memory;
         self.count = 0;
-        self.args = args;
+        made.count = 0;
+        made.parentheses = 0;
+        std::mem::swap(&mut self.args, &mut made.args);
         if self.bytes.is_empty() {
-            self.bytes = bytes;
-            self.bytes.clear();
+            made.bytes.clear();
+            std::mem::swap(&mut self.bytes, &mut made.bytes);
         }
     }
 
@@ -243,10 +235,10 @@ impl OpenCall {
     }
 
     /// Returns the name by which the macro was called.
-    pub fn name(&self) -> &[u8]
+    pub fn name(&self) -> &Bytes
         ensures { result.now ≡ self.now.name }
     {
-        self.name.as_slice()
+        &self.name
     }
 
     /// Returns the arguments that are complete.

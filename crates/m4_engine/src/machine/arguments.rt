@@ -1,16 +1,14 @@
-//! The ends of arguments: a comma ends one, and a parenthesis the last one and its list.
+//! The ends of arguments: a comma ends one, and so does the parenthesis that closes the list.
 //! Manual: "Macro arguments".
 
-ghost use Rattle.std.specs.Prelude.{◌≡◌, ◌≢◌, ◌++◌, [], OnOk, OnErr};
+ghost use Rattle.std.specs.Prelude.{◌≡◌, ◌++◌, OnOk, OnErr};
 ghost use Rattle.m4_builtins.specs.Messages.{dropped};
-ghost use Rattle.m4_engine.specs.Engine.{ending_argument, IfHead, KeepsOutput, outer_of};
-ghost use Rattle.m4_engine.specs.Turns.{IsTaken, StepsBy, close_in, step};
+ghost use Rattle.m4_engine.specs.Engine.{ending_argument, IfHead, KeepsOutput};
 
 use crate::machine::Machine;
-use crate::turned::{TurnFault, Turned};
+use crate::turned::TurnFault;
 use m4_builtins::messages::dropped_message;
 use m4_builtins::place::Place;
-use m4_input::input::Input;
 use std::alloc::Global;
 
 /// Appends the warning that an argument drops definitions. Not inlined, since hardly any does.
@@ -39,19 +37,5 @@ impl Machine {
             add_dropped(&mut self.messages, self.alloc, call.place())?;
         }
         Ok(())
-    }
-
-    /// Closes the innermost list, whose parenthesis was consumed, and makes its call.
-    #[inline(always)]
-    pub(super) fn take_closing(&mut self, input: &mut Input) -> Result<Turned, TurnFault>
-        requires taken { IsTaken input.old }
-        requires list { IfHead self.old.open_calls (λ c. c.parentheses ≡ 0) }
-        requires inside { self.old.open_calls ≢ [] }
-        ensures steps { StepsBy result self.old self.new input.old input.new
-            (λ s. step (outer_of self.old.open_calls) (close_in self.old.open_calls s)) }
-        ensures kept { OnErr result (KeepsOutput self.old self.new) }
-    {
-        self.end_argument()?;
-        self.call(input)
     }
 }

@@ -3,7 +3,7 @@
 ghost use Rattle.std.specs.Prelude.{◌≡◌, nat_lt, ◌++◌, OnOk, OnErr, true, codes};
 ghost use Rattle.std.specs.Fmt.{decimal};
 ghost use Rattle.m4_builtins.specs.Messages.{error};
-ghost use Rattle.m4_engine.specs.Engine.{KeepsOutput, with_engine_message, with_one_call, is_deep_in, allows_call};
+ghost use Rattle.m4_engine.specs.Engine.{KeepsOutput, with_engine_message, with_one_call, allows_call};
 
 use crate::call::OpenCall;
 use crate::machine::Machine;
@@ -19,18 +19,12 @@ impl Machine {
         self.calls += 1;
     }
 
-    /// Returns whether one more open call would exceed the limit.
-    pub(super) fn is_deep(&self) -> bool
-        ensures { result ≡ is_deep_in self.now }
-    {
-        self.most_nested > 0 && self.depth as u64 >= self.most_nested
-    }
-
     /// Returns whether the limits allow one more call.
     pub(super) fn allows_call(&self) -> bool
         ensures { result ≡ allows_call self.now }
     {
-        self.calls < self.most_calls && !self.is_deep()
+        let is_deep = self.most_nested > 0 && self.depth as u64 >= self.most_nested;
+        self.calls < self.most_calls && !is_deep
     }
 
     /// Adds the error that a call exceeds a limit. `what` is the text after the number.

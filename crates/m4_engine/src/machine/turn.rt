@@ -1,12 +1,12 @@
 //! One turn of an expansion: acts on the token that a pass consumed.
 //! Manual: "Macro invocation", "How m4 copies input to output".
 
-ghost use Rattle.std.specs.Prelude.{◌≡◌, ◌≢◌, Bool, false, None, OnErr};
+ghost use Rattle.std.specs.Prelude.{◌≡◌, ◌≢◌, Bool, false, None, IfOk, OnErr};
 ghost use Rattle.m4_input.specs.Input.{Held};
 ghost use Rattle.m4_engine.specs.Engine.{IsReady, KeepsOutput, allows_call};
-ghost use Rattle.m4_engine.specs.Lookahead.{IsCalled, IsNameTaken, Recognises};
+ghost use Rattle.m4_engine.specs.Lookahead.{IsCalled, IsNameTaken, IsRare, Recognises};
 ghost use Rattle.m4_engine.specs.Passes.{IsSeen};
-ghost use Rattle.m4_engine.specs.Turns.{IsTaken, Turns};
+ghost use Rattle.m4_engine.specs.Turns.{Begins, IsTaken, Turns};
 
 use crate::call::OpenCall;
 use crate::lookahead::Lookahead;
@@ -33,15 +33,36 @@ impl Machine {
             → Turns result self.old self.new i input.new }
         ensures kept { OnErr result (KeepsOutput self.old self.new) }
     {
+        match self.begin_turn(lookahead, next, input)? {
+            Some(turned) => Ok(turned),
+            None => self.call(input),
+        }
+    }
+
+    /// Makes one turn, but for the call whose arguments are complete with it, if there is one: then it returns `None`,
+    /// and that call is the innermost.
+    #[inline(always)]
+    fn begin_turn(
+        &mut self,
+        lookahead: Lookahead,
+        next: &mut OpenCall,
+        input: &mut Input,
+    ) -> Result<Option<Turned>, TurnFault>
+        requires seen { (i : Held) × IsSeen lookahead next.old self.old i input.old }
+        ensures begins { (i : Held) → IsSeen lookahead next.old self.old i input.old
+            → IfOk result (λ o. Begins o self.old self.new i input.new) }
+        ensures kept { OnErr result (KeepsOutput self.old self.new) }
+    {
         match lookahead {
-            Lookahead::EndsArgument => {
+            Lookahead::ClosesList => {
                 self.end_argument()?;
-                Ok(Turned::GoesOn)
+                Ok(None)
             }
-            Lookahead::ClosesList => self.take_closing(input),
+            Lookahead::Call => self.begin_call(false, next, input),
+            Lookahead::List => self.begin_call(true, next, input),
             Lookahead::Expansion => {
                 if !self.allows_call() {
-                    return self.refuse_call(next, input);
+                    return Ok(Some(self.refuse_call(next, input)?));
                 }
                 self.count();
                 let Def::Text(text) = next.definition() else {
@@ -49,23 +70,49 @@ impl Machine {
                 };
                 push_text(input, text)?;
                 self.begin_argument();
-                Ok(Turned::GoesOn)
+                Ok(Some(Turned::GoesOn))
             }
             Lookahead::LineSkip => {
                 if !self.allows_call() {
-                    return self.refuse_call(next, input);
+                    return Ok(Some(self.refuse_call(next, input)?));
                 }
                 self.count();
                 self.begin_argument();
-                Ok(Turned::SkipsLine)
+                Ok(Some(Turned::SkipsLine))
             }
-            Lookahead::Call => self.begin_call(false, next, input),
-            Lookahead::List => self.begin_call(true, next, input),
+            _ => Ok(Some(self.rare_turn(lookahead, next, input)?)),
+        }
+    }
+
+    /// Makes one turn on a token that few turns find. Not inlined, so that the others are short.
+    #[inline(never)]
+    fn rare_turn(
+        &mut self,
+        lookahead: Lookahead,
+        next: &mut OpenCall,
+        input: &mut Input,
+    ) -> Result<Turned, TurnFault>
+        requires rare { IsRare lookahead }
+        requires seen { (i : Held) × IsSeen lookahead next.old self.old i input.old }
+        ensures turns { (i : Held) → IsSeen lookahead next.old self.old i input.old
+            → Turns result self.old self.new i input.new }
+        ensures kept { OnErr result (KeepsOutput self.old self.new) }
+    {
+        match lookahead {
+            Lookahead::EndsArgument => {
+                self.end_argument()?;
+                Ok(Turned::GoesOn)
+            }
             Lookahead::Undecided => Ok(Turned::NeedsMore),
             Lookahead::Definition => self.take_definition(input),
             Lookahead::End => self.take_end(),
             Lookahead::UnendedString => self.take_unended(Unended::InString, input.line(), input),
             Lookahead::UnendedComment => self.take_unended(Unended::InComment, input.line(), input),
+            Lookahead::ClosesList
+            | Lookahead::Expansion
+            | Lookahead::LineSkip
+            | Lookahead::Call
+            | Lookahead::List => unreachable!(),
         }
     }
 
@@ -88,34 +135,34 @@ impl Machine {
         Ok(Turned::GoesOn)
     }
 
-    /// Begins the call of a name, which was consumed with the parenthesis of its list, if one follows. Makes the call
-    /// or opens its list, if the limits allow it. If the name is recognised only with a list and none follows, appends
-    /// it as text.
+    /// Begins the call of a name, which was consumed with the parenthesis of its list, if one follows. Opens the call, if
+    /// the limits allow it, and returns `None` if it has no list, so that it is complete. If the name is recognised only
+    /// with a list and none follows, appends it as text.
     #[inline(always)]
     fn begin_call(
         &mut self,
         listed: bool,
         next: &mut OpenCall,
         input: &mut Input,
-    ) -> Result<Turned, TurnFault>
+    ) -> Result<Option<Turned>, TurnFault>
         requires taken { IsTaken input.old }
-        ensures turns { (i : Held) → IsNameTaken listed (IsCalled next.old self.old.state) self.old.state i input.old
-            → Turns result self.old self.new i input.new }
+        ensures begins { (i : Held) → IsNameTaken listed (IsCalled next.old self.old.state) self.old.state i input.old
+            → IfOk result (λ o. Begins o self.old self.new i input.new) }
         ensures kept { OnErr result (KeepsOutput self.old self.new) }
     {
         if !listed && needs_list(next.definition()) {
-            self.put_text(next.name())?;
-            return Ok(Turned::GoesOn);
+            self.put_text(next.name().as_slice())?;
+            return Ok(Some(Turned::GoesOn));
         }
         if !self.allows_call() {
-            return self.refuse_call(next, input);
+            return Ok(Some(self.refuse_call(next, input)?));
         }
         self.count();
         self.open_list(next, input)?;
         if !listed {
-            return self.call(input);
+            return Ok(None);
         }
-        Ok(Turned::GoesOn)
+        Ok(Some(Turned::GoesOn))
     }
 
     /// Reports the limit that a call exceeds, whose name was consumed. Sets the place of `next`, whatever call it is.

@@ -1,13 +1,15 @@
 use Rattle.std.proofs.Common.{◌≡◌, List, ℕ, Bool, true, false, rules, refl, sym, ap, ◌∙◌, subst, take}
-use Rattle.std.specs.Prelude.{Ok}
+use Rattle.std.specs.Prelude.{Ok, Result}
 use Rattle.m4_input.specs.Pending.{Pending, text_of}
 use Rattle.m4_input.specs.Input.{Held, answer_of, longer}
 use Rattle.m4_input.specs.Paren.{paren_at}
 use Rattle.m4_input.specs.declared.token.Token.TheVariants.{Name}
 use Rattle.m4_input.proofs.Consumed.{consumed_twice}
+use Rattle.m4_builtins.specs.declared.fault.BuiltinFault.{BuiltinFault as TurnFault}
 use Rattle.m4_builtins.specs.declared.place.Place.{Place}
 use Rattle.m4_engine.specs.Engine.{Engine, HasFront, IsReady, is_deep_in, with_open_call}
 use Rattle.m4_engine.specs.Expand.{call_of}
+use Rattle.m4_engine.specs.declared.turned.Turned.{Turned}
 use Rattle.m4_engine.specs.declared.turned.Turned.TheVariants as turns
 use Rattle.m4_engine.specs.Expansion.{Call, place_at}
 use Rattle.m4_engine.specs.Lookahead.{IsCalled, len_with}
@@ -21,8 +23,8 @@ use Rattle.m4_engine.proofs.Taken.{place_of_name}
 use Rattle.m4_engine.proofs.Turning.{found_steps_at}
 use Rattle.m4_engine.proofs.machine.Machine.begin_call.Goals as goal
 
-pub returns-then-needs_list-clause-turns : goal.returns-then-needs_list-clause-turns
-returns-then-needs_list-clause-turns c = λ i w.
+pub returns-then-needs_list-clause-begins : goal.returns-then-needs_list-clause-begins
+returns-then-needs_list-clause-begins c = λ i w.
     let e = c.args.self.now in
     let p = i.pending in
     let k : Held = past w.len i in
@@ -43,8 +45,8 @@ returns-then-needs_list-clause-turns c = λ i w.
       made = tt;
     }))
 
-pub returns-then-not-listed-2-clause-turns : goal.returns-then-not-listed-2-clause-turns
-returns-then-not-listed-2-clause-turns c = λ i w.
+pub returns-then-not-listed-2-clause-begins : goal.returns-then-not-listed-2-clause-begins
+returns-then-not-listed-2-clause-begins c = λ i w.
     let e = c.args.self.now in
     let p = i.pending in
     let k : Held = past w.len i in
@@ -59,23 +61,31 @@ returns-then-not-listed-2-clause-turns c = λ i w.
     let placed : place_at j.pending ≡ place_at p = place_of_name c.args.listed (IsCalled n e.state) e.state i j w in
     let same : d ≡ call_of d.definition name (place_at p) = ap (λ (x : List ℕ). call_of n.definition x (place_at p)) w.called.1 in
     let shallow : is_deep_in v ≡ false = search rules in
-    let made = c.call.ensures.steps d v (c.in_ok-open_list.ensures.engine ∙ ap (λ (x : Place). with_open_call (call_of n.definition n.name x) v) placed) in
-    let steps : StepsBy c.call.result v c.call.new.self k c.call.new.input (called_within v.open_calls d) =
-    subst (λ (x : Held). StepsBy c.call.result v c.call.new.self x c.call.new.input (called_within v.open_calls d)) after made in
-    found_steps_at e c.call.new.self (Name name) w.len i k c.call.new.input (c.call.result) w.first (w.named).scanned refl
-    (made_moves e c.call.new.self d c.args.listed name p q (c.call.new.input).pending (c.call.result) refl
-    (name_there w.len c.args.listed e.state p w.named) (search rules) w.called.0 same
-    (bare_made q.may_follow e v c.call.new.self d c.args.listed (λ z more. longer z more q) c.call.new.input.pending c.call.result
-    (search rules) (search rules) c.count.ensures shallow steps.moves))
-    (record {
-      moves = steps.moves;
-      ready = steps.ready;
-      limits = limits_by c.call.result _ _ _ steps.limits (ap (λ (x : Engine). x.limits) c.count.ensures);
-      made = steps.made;
-    })
+    let opened = c.in_ok-open_list.ensures.engine ∙ ap (λ (x : Place). with_open_call (call_of n.definition n.name x) v) placed in
+    record {
+      call = d;
+      around = v;
+      innermost = opened;
+      output = ap (λ (x : Engine). x.output) opened ∙ ap (λ (x : Engine). x.output) c.count.ensures;
+      taken = c.requires.taken;
+      turns = λ r new l s.
+          let steps : StepsBy r v new k l (called_within v.open_calls d) =
+          subst (λ (x : Held). StepsBy r v new x l (called_within v.open_calls d)) after s in
+          found_steps_at e new (Name name) w.len i k l r w.first (w.named).scanned refl
+          (made_moves e new d c.args.listed name p q l.pending r refl
+          (name_there w.len c.args.listed e.state p w.named) (search rules) w.called.0 same
+          (bare_made q.may_follow e v new d c.args.listed (λ z more. longer z more q) l.pending r
+          (search rules) (search rules) c.count.ensures shallow steps.moves))
+          (record {
+            moves = steps.moves;
+            ready = steps.ready;
+            limits = limits_by r _ _ _ steps.limits (ap (λ (x : Engine). x.limits) c.count.ensures);
+            made = steps.made;
+          });
+    }
 
-pub returns-clause-turns : goal.returns-clause-turns
-returns-clause-turns c = λ i w.
+pub returns-clause-begins : goal.returns-clause-begins
+returns-clause-begins c = λ i w.
     let e = c.args.self.now in
     let p = i.pending in
     let k : Held = past w.len i in
@@ -111,14 +121,16 @@ returns-clause-turns c = λ i w.
     })
 
 -- the limits allow no call
-pub returns-then-not-allows_call-clause-turns : goal.returns-then-not-allows_call-clause-turns
-returns-then-not-allows_call-clause-turns c = λ i w. c.refuse_call.ensures.turns i c.args.listed (record {
-  len = w.len;
-  first = w.first;
-  named = w.named;
-  called = (c.args.next.now.definition, w.called.0, search rules);
-  after = w.after;
-})
+pub returns-then-not-allows_call-clause-begins : goal.returns-then-not-allows_call-clause-begins
+returns-then-not-allows_call-clause-begins c = λ i w.
+    subst (λ (r : Result Turned TurnFault). Turns r c.args.self.now c.refuse_call.new.self i c.args.input.now) c.in_ok-refuse_call.was
+    (c.refuse_call.ensures.turns i c.args.listed (record {
+      len = w.len;
+      first = w.first;
+      named = w.named;
+      called = (c.args.next.now.definition, w.called.0, search rules);
+      after = w.after;
+    }))
 
 -- there is no memory for one more call: the call was counted
 pub returns-in_err-open_list-clause-kept : goal.returns-in_err-open_list-clause-kept
