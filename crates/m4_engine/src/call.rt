@@ -122,6 +122,7 @@ impl OpenCall {
 
     /// Sets the name, to the first `len` bytes of a text, and the definition. The text is taken, since a short name is
     /// copied with the bytes after it.
+    #[inline(always)]
     pub fn renew(&mut self, text: &[u8], len: usize, definition: &Def) -> Result<(), AllocError>
         requires valid { IsDefinition definition.now }
         requires within { len ≤ length text.now }

@@ -173,9 +173,8 @@ fn give_more(
 }
 
 /// Moves the memory of the call that was made last, if any, to the innermost of the first `depth` calls. Deeply nested
-/// calls are made one after another, the innermost first, so that one memory serves all of them. Not inlined, since most
-/// calls have memory.
-#[inline(never)]
+/// calls are made one after another, the innermost first, so that one memory serves all of them.
+#[inline(always)]
 fn move_memory(stack: &mut Vec<OpenCall>, depth: usize)
     requires some { 0 < depth }
     requires within { depth ≤ length stack.old.items }
