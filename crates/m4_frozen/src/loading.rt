@@ -105,6 +105,15 @@ impl Loading {
         })
     }
 
+    /// Returns how many bytes of an open text have not been read yet.
+    pub(crate) fn missing(&self) -> usize {
+        match &self.begun {
+            None => 0,
+            Some(Begun::Diversion(missing)) => *missing,
+            Some(Begun::Name(text)) => text.missing,
+        }
+    }
+
     /// Reads everything that is complete in these bytes, which begin with those that were left before.
     ///
     /// A refusal stays, whatever follows. After an error, a directive may be applied in part, and there

@@ -44,11 +44,14 @@ pub fn read_frozen<R: ByteSource>(alloc: Global, reader: &mut R) -> Result<Loade
         → R.failures reader.new ≡ one_more (R.failures reader.old)) }
     ensures unfailed { OnOk result (R.failures reader.new ≡ R.failures reader.old) }
 {
-    let mut window = Window::new();
+    let mut window = Window::new(alloc);
     let mut loading = Loading::new(alloc)?;
     let mut account = Account::new();
     loop {
-        let after = window.fill(alloc, account.block_len(), reader)?;
+        let usual = account.block_len();
+        // No string shares a block that is a part of one text.
+        let shares = loading.missing() < usual;
+        let after = window.fill(alloc, usual, shares, reader)?;
         let pause = read_window(alloc, &mut loading, &mut account, &window)?;
         match after {
             BlockRead::More => window.keep_last(pause.left)?,

@@ -61,14 +61,16 @@ fn take_after<R: ByteSource>(
     reader.take(room.split_at_mut(end).1)
 }
 
-/// Reads bytes from a reader and appends them, until there are at least `enough` or no more come. Returns how many
-/// bytes of the room are in use then.
+/// Reads bytes from a reader into the room after the first `used`, until at least `enough` are in use or no more come.
+/// Returns how many are in use then.
 pub(crate) fn fill_room<R: ByteSource>(
     room: &mut Vec<u8>,
+    used: usize,
     enough: usize,
     reader: &mut R,
 ) -> Result<(BlockRead, usize), AllocError>
-    ensures takes { IfOk result (λ r. blocks.HasTaken room.old.items (take r.1 room.new.items)
+    requires { used ≤ length room.old.items }
+    ensures takes { IfOk result (λ r. blocks.HasTaken (take used room.old.items) (take r.1 room.new.items)
         (R.script reader.old) (R.script reader.new)) }
     ensures within { IfOk result (λ r. r.1 ≤ length room.new.items) }
     ensures place { IfOk result (λ r. blocks.MatchesScript r.0 (R.script reader.new)) }
@@ -76,7 +78,7 @@ pub(crate) fn fill_room<R: ByteSource>(
     ensures falls { IfOk result (λ r. r.0 ≡ marks.More → R.takes_left reader.new < R.takes_left reader.old) }
     ensures enough { IfOk result (λ r. r.0 ≡ marks.More → enough ≤ r.1) }
 {
-    let mut end = room.len();
+    let mut end = used;
     loop {
         make_room(room, end)?;
         match take_after(room, end, reader) {

@@ -11,6 +11,7 @@ use crate::room::{BlockRead, fill_room};
 use m4_state::bytes::Bytes;
 use m4_state::device::ByteSource;
 use std::alloc::{AllocError, Global};
+use std::mem::replace;
 
 /// The last bytes that were read, which strings may share, and how many were dropped before them. That count stays at
 /// its greatest value.
@@ -18,17 +19,20 @@ use std::alloc::{AllocError, Global};
 pub(crate) struct Window {
     bytes: Bytes,
     dropped: u64,
+    /// The room of the last block, if no string may share it. The next block takes it.
+    room: Vec<u8>,
 }
 
 impl Window {
     /// Returns an empty window: no byte was read.
-    pub(crate) fn new() -> Window
+    pub(crate) fn new(alloc: Global) -> Window
         ensures bytes { result.bytes ≡ [] }
         ensures dropped { result.dropped ≡ 0 }
     {
         Window {
             bytes: Bytes::empty(),
             dropped: 0,
+            room: Vec::new(alloc),
         }
     }
 
@@ -40,11 +44,13 @@ impl Window {
     }
 
     /// Reads more bytes, about `usual` and at least as many as the window contains, so that the bytes parsed again
-    /// are no more than those that were read. All are in a new block, which later ones do not write to.
+    /// are no more than those that were read. All are in one block. Later ones do not write to it if strings may share
+    /// it.
     pub(crate) fn fill<R: ByteSource>(
         &mut self,
         alloc: Global,
         usual: usize,
+        shares: bool,
         reader: &mut R,
     ) -> Result<BlockRead, AllocError>
         ensures takes { IfOk result (λ after. blocks.Fills self.old self.new
@@ -57,15 +63,25 @@ impl Window {
             → min (length self.old.bytes * 2) (2 ^ 64 - 1) ≤ length self.new.bytes) }
     {
         let left = self.bytes.as_slice();
-        let enough = left.len().saturating_add(left.len().max(usual));
-        let mut room = Vec::with_capacity(alloc, enough)?;
-        room.extend_from_slice(left)?;
+        let count = left.len();
+        let enough = count.saturating_add(count.max(usual));
+        // A room that is used again need not be set to zero again.
+        let mut room = replace(&mut self.room, Vec::new(alloc));
+        room.reserve_exact(enough.saturating_sub(room.len()))?;
+        if count > 0 {
+            room.clear();
+            room.extend_from_slice(left)?;
+        }
         // Frees the last block, unless strings share it.
         self.bytes = Bytes::empty();
-        let (after, end) = fill_room(&mut room, enough, reader)?;
+        let (after, end) = fill_room(&mut room, count, enough, reader)?;
         room.truncate(end);
-        room.shrink_to_fit();
-        self.bytes = Bytes::from_vec(room)?;
+        self.bytes = if shares {
+            room.shrink_to_fit();
+            Bytes::from_vec(room)?
+        } else {
+            Bytes::from(room)
+        };
         Ok(after)
     }
 
@@ -78,7 +94,10 @@ impl Window {
     {
         let used = self.len() - count;
         self.dropped = self.offset_of(used);
-        self.bytes = self.bytes.part(used, count)?;
+        let last = self.bytes.part(used, count)?;
+        if let Some(room) = replace(&mut self.bytes, last).buffer() {
+            self.room = room;
+        }
         Ok(())
     }
 

@@ -5,7 +5,7 @@ use Rattle.m4_frozen.proofs.room.fill_room.Given as goal
 
 abbrev pub invariant-loop-room : goal.invariant-loop-room
 invariant-loop-room g l = record {
-  taken : HasTaken l.initial.room.items (take l.end l.room.items) (g.R.ByteSource.script l.initial.reader) (g.R.ByteSource.script l.reader);
+  taken : HasTaken (take l.initial.used l.initial.room.items) (take l.end l.room.items) (g.R.ByteSource.script l.initial.reader) (g.R.ByteSource.script l.reader);
   within : l.end ≤ length l.room.items;
   counted : g.R.ByteSource.failures l.reader ≡ g.R.ByteSource.failures l.initial.reader;
   falls : g.R.ByteSource.takes_left l.reader ≤ g.R.ByteSource.takes_left l.initial.reader;
