@@ -11,6 +11,7 @@ ghost use Rattle.m4_frozen.specs.Listing as lines;
 
 use crate::fault::WriteFault;
 use crate::gathered::{Full, Gathered, gather_length};
+use crate::items::{Form, put_stack, put_texts};
 use crate::loading::Loaded;
 use itoa::Buffer;
 use m4_state::definition::Def;
@@ -94,44 +95,44 @@ fn put_names<W: ByteSink>(pairs: &[NamedStack], writer: &mut W) -> Result<(), De
 {
     let mut gathered = Gathered::new();
     for pair in pairs {
-        put_stack(pair.name(), pair.stack(), &mut gathered, writer)?;
+        put_stack::<Listed, W>(pair.name(), pair.stack(), &mut gathered, writer)?;
     }
     Ok(())
 }
 
-/// Writes the definitions of one name, the oldest first.
-fn put_stack<W: ByteSink>(
-    name: &[u8],
-    stack: &[Def],
-    gathered: &mut Gathered,
-    writer: &mut W,
-) -> Result<(), DeviceFault>
-    ensures puts { Puts result (W.contents writer.old) (W.contents writer.new) (steps.stack_lines name.now stack.now) }
-    ensures counted { W.failures writer.new ≡ count_after result (W.failures writer.old) }
-{
-    for definition in stack {
-        put_definition(name, definition, gathered, writer)?;
-    }
-    Ok(())
-}
+/// The form of the listing: a line for each.
+struct Listed;
 
-/// Writes the kind of a definition, and the length of its text or the name of its builtin.
-fn put_definition<W: ByteSink>(
-    name: &[u8],
-    definition: &Def,
-    gathered: &mut Gathered,
-    writer: &mut W,
-) -> Result<(), DeviceFault>
-    ensures puts { Puts result (W.contents writer.old) (W.contents writer.new)
-        (lines.definition_line name.now definition.now) }
-    ensures counted { W.failures writer.new ≡ count_after result (W.failures writer.old) }
-{
-    match definition {
-        Def::Text(text) => put_counted(name, text.as_slice(), gathered, writer),
-        Def::Builtin(builtin) => put_two_words(b"builtin ", name, builtin.name(), writer),
-        Def::Placeholder(builtin) => {
-            put_two_words(b"placeholder ", name, builtin.as_slice(), writer)
+impl Form for Listed {
+    ghost definition_text = { lines.definition_line };
+
+    ghost diversion_text = { lines.diversion_line };
+
+    fn put_definition<W: ByteSink>(
+        name: &[u8],
+        definition: &Def,
+        gathered: &mut Gathered,
+        writer: &mut W,
+    ) -> Result<(), DeviceFault> {
+        match definition {
+            Def::Text(text) => put_counted(name, text.as_slice(), gathered, writer),
+            Def::Builtin(builtin) => put_two_words(b"builtin ", name, builtin.name(), writer),
+            Def::Placeholder(builtin) => {
+                put_two_words(b"placeholder ", name, builtin.as_slice(), writer)
+            }
         }
+    }
+
+    fn put_diversion<W: ByteSink>(
+        number: i32,
+        text: &[u8],
+        writer: &mut W,
+    ) -> Result<(), DeviceFault> {
+        let mut digits = Buffer::new();
+        let digits = digits.format(number).as_bytes();
+        let mut length = Buffer::new();
+        let length = length.format(text.len()).as_bytes();
+        write_pieces(writer, &[b"diversion ", digits, b" ", length, b"\n"])
     }
 }
 
@@ -198,36 +199,9 @@ fn put_diverted<W: ByteSink>(loaded: &Loaded, writer: &mut W) -> Result<(), Devi
     ensures puts { Puts result (W.contents writer.old) (W.contents writer.new) (steps.diverted_lines loaded.now) }
     ensures counted { W.failures writer.new ≡ count_after result (W.failures writer.old) }
 {
-    put_texts(&loaded.state, writer)?;
+    put_texts::<Listed, W>(&loaded.state, writer)?;
     put_current(&loaded.state, writer)?;
     put_issued(loaded.issued.as_slice(), writer)
-}
-
-/// Writes the diversions that contain text, by rising number.
-fn put_texts<W: ByteSink>(state: &State, writer: &mut W) -> Result<(), DeviceFault>
-    ensures puts { Puts result (W.contents writer.old) (W.contents writer.new)
-        (steps.texts_lines state.now.diversions) }
-    ensures counted { W.failures writer.new ≡ count_after result (W.failures writer.old) }
-{
-    let mut last = 0;
-    while let Some(number) = state.next_diversion(last) {
-        put_diversion(number, state.diversion(number), writer)?;
-        last = number;
-    }
-    Ok(())
-}
-
-/// Writes a diversion's number and the length of its text.
-fn put_diversion<W: ByteSink>(number: i32, text: &[u8], writer: &mut W) -> Result<(), DeviceFault>
-    ensures puts { Puts result (W.contents writer.old) (W.contents writer.new)
-        (lines.diversion_line (number, text.now)) }
-    ensures counted { W.failures writer.new ≡ count_after result (W.failures writer.old) }
-{
-    let mut digits = Buffer::new();
-    let digits = digits.format(number).as_bytes();
-    let mut length = Buffer::new();
-    let length = length.format(text.len()).as_bytes();
-    write_pieces(writer, &[b"diversion ", digits, b" ", length, b"\n"])
 }
 
 /// Writes the current number.

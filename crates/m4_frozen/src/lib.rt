@@ -14,6 +14,7 @@ pub mod fault;
 mod gathered;
 mod head;
 pub mod inspector;
+mod items;
 pub mod laws;
 mod lines;
 pub mod loading;

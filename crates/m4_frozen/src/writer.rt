@@ -13,6 +13,7 @@ ghost use Rattle.m4_frozen.specs.WriterSteps as steps;
 
 use crate::fault::WriteFault;
 use crate::gathered::{Full, Gathered, gather_length};
+use crate::items::{Form, put_stack, put_texts};
 use itoa::Buffer;
 use m4_state::definition::Def;
 use m4_state::device::{ByteSink, DeviceFault};
@@ -98,7 +99,7 @@ fn put_diversions<W: ByteSink>(state: &State, writer: &mut W) -> Result<(), Devi
     ensures puts { Puts result (W.contents writer.old) (W.contents writer.new) (steps.diverted_text state.now) }
     ensures counted { W.failures writer.new ≡ count_after result (W.failures writer.old) }
 {
-    let last = put_texts(state, writer)?;
+    let last = put_texts::<Frozen, W>(state, writer)?;
     put_current(state.current(), last, writer)
 }
 
@@ -134,7 +135,7 @@ fn put_names<W: ByteSink>(pairs: &[NamedStack], writer: &mut W) -> Result<(), De
         if i % AHEAD == 0 {
             look_at(pairs.split_at(i).1, &mut seen);
         }
-        put_stack(pair.name(), pair.stack(), &mut gathered, writer)?;
+        put_stack::<Frozen, W>(pair.name(), pair.stack(), &mut gathered, writer)?;
     }
     Ok(())
 }
@@ -166,54 +167,40 @@ fn first_byte_of_text(stack: &[Def]) -> u8 {
     }
 }
 
-/// Writes the definitions of one name, the oldest first.
-fn put_stack<W: ByteSink>(
-    name: &[u8],
-    stack: &[Def],
-    gathered: &mut Gathered,
-    writer: &mut W,
-) -> Result<(), DeviceFault>
-    ensures puts { Puts result (W.contents writer.old) (W.contents writer.new) (steps.stack_text name.now stack.now) }
-    ensures counted { W.failures writer.new ≡ count_after result (W.failures writer.old) }
-{
-    for definition in stack {
-        put_definition(name, definition, gathered, writer)?;
-    }
-    Ok(())
-}
+/// The form of a frozen file: a directive for each.
+struct Frozen;
 
-/// Writes the directive that pushes a definition.
-fn put_definition<W: ByteSink>(
-    name: &[u8],
-    definition: &Def,
-    gathered: &mut Gathered,
-    writer: &mut W,
-) -> Result<(), DeviceFault>
-    ensures puts { Puts result (W.contents writer.old) (W.contents writer.new)
-        (texts.spelling (texts.definition name.now definition.now)) }
-    ensures counted { W.failures writer.new ≡ count_after result (W.failures writer.old) }
-{
-    match definition {
-        Def::Text(text) => put_gathered(b'T', name, text.as_slice(), gathered, writer),
-        Def::Builtin(builtin) => put_gathered(b'F', name, builtin.name(), gathered, writer),
-        Def::Placeholder(builtin) => {
-            put_gathered(b'F', name, builtin.as_slice(), gathered, writer)
+impl Form for Frozen {
+    ghost definition_text = { λ name d. texts.spelling (texts.definition name d) };
+
+    ghost diversion_text = { λ d. texts.spelling (steps.diversion d) };
+
+    fn put_definition<W: ByteSink>(
+        name: &[u8],
+        definition: &Def,
+        gathered: &mut Gathered,
+        writer: &mut W,
+    ) -> Result<(), DeviceFault> {
+        match definition {
+            Def::Text(text) => put_gathered(b'T', name, text.as_slice(), gathered, writer),
+            Def::Builtin(builtin) => put_gathered(b'F', name, builtin.name(), gathered, writer),
+            Def::Placeholder(builtin) => {
+                put_gathered(b'F', name, builtin.as_slice(), gathered, writer)
+            }
         }
     }
-}
 
-/// Writes the diversions that contain text, by rising number. Returns the last one's number, or 0.
-fn put_texts<W: ByteSink>(state: &State, writer: &mut W) -> Result<i32, DeviceFault>
-    ensures puts { Puts result (W.contents writer.old) (W.contents writer.new) (steps.texts_text state.now.diversions) }
-    ensures last { IfOk result (λ n. n ≡ texts.last_number (pos 0) state.now.diversions) }
-    ensures counted { W.failures writer.new ≡ count_after result (W.failures writer.old) }
-{
-    let mut last = 0;
-    while let Some(number) = state.next_diversion(last) {
-        put_diversion(number, state.diversion(number), writer)?;
-        last = number;
+    fn put_diversion<W: ByteSink>(
+        number: i32,
+        text: &[u8],
+        writer: &mut W,
+    ) -> Result<(), DeviceFault> {
+        let mut digits = Buffer::new();
+        let digits = digits.format(number).as_bytes();
+        let mut length = Buffer::new();
+        let length = length.format(text.len()).as_bytes();
+        write_pieces(writer, &[b"D", digits, b",", length, b"\n", text, b"\n"])
     }
-    Ok(last)
 }
 
 /// Writes the current number, unless the last diversion has set it.
@@ -224,7 +211,7 @@ fn put_current<W: ByteSink>(current: i32, last: i32, writer: &mut W) -> Result<(
     if current == last {
         return Ok(());
     }
-    put_diversion(current, &[], writer)
+    Frozen::put_diversion(current, &[], writer)
 }
 
 /// Writes a letter, two lengths and two strings. What fits is gathered, and put as one piece.
@@ -329,17 +316,4 @@ fn gather_second(gathered: &mut Gathered, second: &[u8]) -> Result<(), Full>
     gathered.add(second)?;
     gathered.push(b'\n');
     Ok(())
-}
-
-/// Writes `D`, a number, a length and a text.
-fn put_diversion<W: ByteSink>(number: i32, text: &[u8], writer: &mut W) -> Result<(), DeviceFault>
-    ensures puts { Puts result (W.contents writer.old) (W.contents writer.new)
-        (texts.spelling (directives.Diversion number text.now)) }
-    ensures counted { W.failures writer.new ≡ count_after result (W.failures writer.old) }
-{
-    let mut digits = Buffer::new();
-    let digits = digits.format(number).as_bytes();
-    let mut length = Buffer::new();
-    let length = length.format(text.len()).as_bytes();
-    write_pieces(writer, &[b"D", digits, b",", length, b"\n", text, b"\n"])
 }

@@ -2,7 +2,7 @@ use Rattle.std.proofs.Common.{List, ℕ, subst}
 use Rattle.std.specs.Prelude.{codes}
 use Rattle.m4_state.specs.Device.{Puts}
 use Rattle.m4_frozen.proofs.ListingParts.{two_words_line-flat, counted_line-flat}
-use Rattle.m4_frozen.proofs.inspector.put_definition.Goals as goal
+use Rattle.m4_frozen.proofs.inspector.ListedForm.put_definition.Goals as goal
 
 -- a placeholder's two names
 pub returns-in-Placeholder-clause-puts : goal.returns-in-Placeholder-clause-puts

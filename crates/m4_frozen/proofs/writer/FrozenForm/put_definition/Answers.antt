@@ -1,5 +1,5 @@
 use Rattle.std.proofs.Common.{rules}
-use Rattle.m4_frozen.proofs.writer.put_definition.Goals as goal
+use Rattle.m4_frozen.proofs.writer.FrozenForm.put_definition.Goals as goal
 
 pub returns-in-Placeholder-clause-puts : goal.returns-in-Placeholder-clause-puts
 returns-in-Placeholder-clause-puts g c = search rules

@@ -1,13 +1,12 @@
 use Rattle.std.proofs.Common.{◌∙◌}
 use Rattle.m4_state.proofs.CallerLaws.{HasPut-put, HasPut-cut, Puts-refused, flat_map-drop}
-use Rattle.m4_frozen.specs.Freeze.{spelling, definition}
-use Rattle.m4_frozen.proofs.writer.put_stack.Goals as goal
+use Rattle.m4_frozen.proofs.items.put_stack.Goals as goal
 
 -- a definition failed
 pub returns-in_err-put_definition-clause-puts : goal.returns-in_err-put_definition-clause-puts
 returns-in_err-put_definition-clause-puts g c =
     let left = rw (
-      flat_map-drop (λ d. spelling (definition c.args.name.now d)) c.args.stack.now
+      flat_map-drop (g.F.Form.definition_text c.args.name.now) c.args.stack.now
           c.loop-definition.definition-index c.definition-item.result c.loop-definition-test.true,
       ← c.definition-item.is,
     )
@@ -19,7 +18,7 @@ returns-in_err-put_definition-clause-puts g c =
 pub loop-definition-preserved : goal.loop-definition-preserved
 loop-definition-preserved g c =
     let left = rw (
-      flat_map-drop (λ d. spelling (definition c.args.name.now d)) c.args.stack.now
+      flat_map-drop (g.F.Form.definition_text c.args.name.now) c.args.stack.now
           c.loop-definition.definition-index c.definition-item.result c.loop-definition-test.true,
       ← c.definition-item.is,
     )

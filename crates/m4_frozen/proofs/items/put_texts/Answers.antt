@@ -5,7 +5,7 @@ use mir.Val.{to_z}
 use Rattle.m4_state.proofs.CallerLaws.{HasPut-start, HasPut-put, HasPut-cut, HasPut-all, Puts-refused}
 use Rattle.m4_state.specs.NumbersAbove.{above}
 use Rattle.m4_state.proofs.NumbersAbove.{above-next, above-last, above-all, next_fits}
-use Rattle.m4_frozen.proofs.writer.put_texts.Goals as goal
+use Rattle.m4_frozen.proofs.items.put_texts.Goals as goal
 
 -- all diversions lie above 0
 pub loop-number-init : goal.loop-number-init
