@@ -61,8 +61,8 @@ pub fn act(
     Ok(effect.into_effect())
 }
 
-/// Makes a call whose name and arguments are borrowed, as [`act`] does, and fills an effect that is clear. A text without
-/// a dollar is its own expansion: it is returned, and is all that the call leaves to do.
+/// Makes a call whose name and arguments are borrowed, as [`act`] does, and fills an effect that is clear. A text
+/// without a dollar is its own expansion: it is returned, and is all that the call leaves to do.
 #[doc(hidden)]
 #[inline(always)]
 pub fn act_on<'a>(

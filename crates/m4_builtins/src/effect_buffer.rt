@@ -327,8 +327,8 @@ impl EffectBuffer {
         }
     }
 
-    /// Inserts a text with a call's name and arguments substituted, by these quotes, and returns whether it did. It does
-    /// nothing if the text has no dollar, and so is its own expansion.
+    /// Inserts a text with a call's name and arguments substituted, by these quotes, and returns whether it did. It
+    /// does nothing if the text has no dollar, and so is its own expansion.
     #[inline(always)]
     pub(crate) fn give_expansion(
         &mut self,

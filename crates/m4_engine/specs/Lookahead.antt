@@ -1,7 +1,7 @@
 -- Lookahead: the next token, as it was recognised before a turn consumes it.
 -- Not believed: it connects the code with `Expand`; the turns' lemmas prove that they agree.
--- Words: IsExpansion, IsCalled, Recognises, len_with, IsNamed, IsNameTaken, IsAhead, IsRare, IsFirst, IsLeftOutside, IsEndByte,
--- IsEndIn, IsNext, IsLookaheadOf, IsAfter.
+-- Words: IsExpansion, IsCalled, Recognises, len_with, IsNamed, IsNameTaken, IsAhead, IsRare, IsFirst, IsLeftOutside,
+-- IsEndByte, IsEndIn, IsNext, IsLookaheadOf, IsAfter.
 use Rattle.std.specs.Prelude.{◌≡◌, ◌≢◌, ◌<◌, ◌≤◌, ◌+◌, Bool, true, false, ℕ, List, [], ◌∷◌, None, Some, length}
 use Rattle.std.specs.Prelude.{take, drop}
 use Rattle.m4_state.specs.declared.builtin.Builtin.TheVariants.{Dnl}

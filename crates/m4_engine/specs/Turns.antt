@@ -19,7 +19,8 @@ use Rattle.m4_engine.specs.Nesting.{Turn, GoOn, Close, Halted}
 use Rattle.m4_engine.specs.OpenCalls.{Move, Stops, Goes, pop, take_turn}
 pub use Rattle.m4_engine.specs.Moments.{moved}
 use Rattle.m4_engine.specs.Expand.{turn, join, called, with_value, skip_line}
-use Rattle.m4_engine.specs.Engine.{Engine, so_far_of, kept_in, outer_of, here_of, configuration, with_open_call, IsReady}
+use Rattle.m4_engine.specs.Engine.{Engine, so_far_of, kept_in, outer_of, here_of, configuration, with_open_call}
+use Rattle.m4_engine.specs.Engine.{IsReady}
 
 -- a turn's effect on the stack of open calls
 abbrev pub step : List Kept → Turn Expansion Kept Ended → Move Expansion Kept Ended

@@ -1,7 +1,8 @@
 //! Appends bytes to a vector, and puts them before a place. Many of these texts are short, and a call that copies takes
 //! longer than a few bytes do.
 
-ghost use Rattle.std.specs.Prelude.{◌≡◌, ◌≤◌, ◌+◌, ◌++◌, ◌-◌, OnOk, OnErr, length, take, drop, vec_len, vec_capacity};
+ghost use Rattle.std.specs.Prelude.{◌≡◌, ◌≤◌, ◌+◌, ◌++◌, ◌-◌, true, false, OnOk, OnErr, length, take, drop};
+ghost use Rattle.std.specs.Prelude.{vec_len, vec_capacity};
 
 use std::alloc::AllocError;
 
@@ -36,6 +37,51 @@ pub fn append_in_room(out: &mut Vec<u8>, bytes: &[u8])
     }
 }
 
+/// Copies a text of N to 2N bytes over as many others, as its first N and its last N, which may overlap: each is one
+/// load and one store. Returns whether it has so many.
+#[inline(always)]
+fn copy_ends<const N: usize>(place: &mut [u8], text: &[u8]) -> bool
+    requires lanes { N ≤ 16 }
+    requires len { length place.old ≡ length text.now }
+    ensures copied { result ≡ true → place.new ≡ text.now }
+    ensures left { result ≡ false → place.new ≡ place.old }
+{
+    if text.len() > 2 * N {
+        return false;
+    }
+    let Some(front) = text.first_chunk::<N>() else {
+        return false;
+    };
+    let Some(back) = text.last_chunk::<N>() else {
+        return false;
+    };
+    let Some(first) = place.first_chunk_mut::<N>() else {
+        return false;
+    };
+    *first = *front;
+    let Some(last) = place.last_chunk_mut::<N>() else {
+        unreachable!();
+    };
+    *last = *back;
+    true
+}
+
+/// Copies a text over as many bytes. A short one takes no call that copies.
+#[inline(always)]
+pub(crate) fn copy_over(place: &mut [u8], text: &[u8])
+    requires { length place.old ≡ length text.now }
+    ensures { place.new ≡ text.now }
+{
+    if text.len() < 8 {
+        if copy_ends::<4>(place, text) || copy_ends::<2>(place, text) {
+            return;
+        }
+    } else if copy_ends::<8>(place, text) || copy_ends::<16>(place, text) {
+        return;
+    }
+    place.copy_from_slice(text);
+}
+
 /// Puts bytes directly before the place `at`, over those that are there.
 #[inline(always)]
 pub fn copy_before(all: &mut [u8], at: usize, bytes: &[u8])
@@ -46,6 +92,6 @@ pub fn copy_before(all: &mut [u8], at: usize, bytes: &[u8])
 {
     match bytes {
         [byte] => all[at - 1] = *byte,
-        _ => all[at - bytes.len()..at].copy_from_slice(bytes),
+        _ => copy_over(&mut all[at - bytes.len()..at], bytes),
     }
 }

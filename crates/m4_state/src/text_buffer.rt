@@ -5,6 +5,7 @@
 ghost use Rattle.std.specs.Prelude.{◌≡◌, ◌==◌, ◌<◌, ◌≤◌, ◌+◌, ◌^◌, ◌++◌, ◌∷◌, [], true, false, length, take};
 ghost use Rattle.std.specs.Prelude.{OnOk, OnErr, IfSome};
 
+use crate::append::copy_over;
 use crate::bytes::{Bytes, SHORT};
 use crate::lanes::LANES;
 use std::alloc::{AllocError, Global};
@@ -61,7 +62,7 @@ fn write(room: &mut [u8], at: usize, text: &[u8])
     ensures written { take (at + length text.now) room.new ≡ take at room.old ++ text.now }
     ensures len { length room.new ≡ length room.old }
 {
-    room[at..at + text.len()].copy_from_slice(text);
+    copy_over(&mut room[at..at + text.len()], text);
 }
 
 impl TextBuffer {

@@ -1,7 +1,8 @@
 //! Calls: a call begins at its name and is made when its arguments are complete. Its result is pushed.
 //! Manual: "Macro invocation", "Macro arguments".
 
-ghost use Rattle.std.specs.Prelude.{◌≡◌, ◌≢◌, ◌<◌, ◌≤◌, [], ◌++◌, length, None, Some, IfOk, IfSome, OnOk, OnErr, option_copied};
+ghost use Rattle.std.specs.Prelude.{◌≡◌, ◌≢◌, ◌<◌, ◌≤◌, [], ◌++◌, length, None, Some, IfOk, IfSome, OnOk, OnErr};
+ghost use Rattle.std.specs.Prelude.{option_copied};
 ghost use Rattle.m4_input.specs.declared.pushed.Pushed.TheVariants as pushes;
 ghost use Rattle.m4_builtins.specs.Act.{IsPushed, nothing};
 ghost use Rattle.m4_engine.specs.Engine.{Engine, HasFront, KeepsOutput, with_made, with_open_call};
@@ -108,8 +109,8 @@ fn push_kept(input: &mut Input, effect: &mut EffectBuffer) -> Result<(), TurnFau
     Ok(())
 }
 
-/// Does what a call leaves to do: pushes the text that is its own expansion, if it is one, and else what the effect says.
-/// Most calls leave only a value to be pushed.
+/// Does what a call leaves to do: pushes the text that is its own expansion, if it is one, and otherwise does what the
+/// effect says. Most calls leave only a value to be pushed.
 #[inline(always)]
 fn give(
     own: Option<&Bytes>,

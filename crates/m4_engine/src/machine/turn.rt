@@ -135,9 +135,9 @@ impl Machine {
         Ok(Turned::GoesOn)
     }
 
-    /// Begins the call of a name, which was consumed with the parenthesis of its list, if one follows. Opens the call, if
-    /// the limits allow it, and returns `None` if it has no list, so that it is complete. If the name is recognised only
-    /// with a list and none follows, appends it as text.
+    /// Begins the call of a name, which was consumed with the parenthesis of its list, if one follows. Opens the call,
+    /// if the limits allow it, and returns `None` if it has no list, so that it is complete. If the name is recognised
+    /// only with a list and none follows, appends it as text.
     #[inline(always)]
     fn begin_call(
         &mut self,
