@@ -22,50 +22,49 @@ returns-in-Err g c =
     (g.O.ByteSink.failures c.args.out.now) (g.O.ByteSink.failures c.match-frozen.out) c.match-frozen.begun = elim c.match-frozen.branch [
       | in-Some w ↦ starts.began_so g.R.ByteSource.script g.R.ByteSource.failures c.args.options c.args.frozen.now
           (Some w.reload-begun.new.frozen) c.match-frozen.frozen g.O.ByteSink.contents g.O.ByteSink.failures c.args.out.now
-          w.reload-begun.new.out c.match-frozen.out w.reload-begun.result c.match-frozen.begun (search rules) (search rules)
-          (search rules)
+          w.reload-begun.new.out c.match-frozen.out w.reload-begun.result c.match-frozen.begun w.frozen-is w.out-is w.begun-is
           (starts.reload_began g.R.ByteSource.script g.R.ByteSource.failures c.args.options c.args.frozen.now
           (Some w.reload-begun.new.frozen) w.in-Some.reader w.reload-begun.new.frozen _ _ _ _ w.reload-begun.result
-          (search rules) refl w.reload-begun.ensures.gives w.reload-begun.ensures.read w.reload-begun.ensures.write)
+          w.in-Some.is refl w.reload-begun.ensures.gives w.reload-begun.ensures.read w.reload-begun.ensures.write)
       | in-None w ↦ starts.began_so g.R.ByteSource.script g.R.ByteSource.failures c.args.options c.args.frozen.now
           None c.match-frozen.frozen g.O.ByteSink.contents g.O.ByteSink.failures c.args.out.now c.args.out.now
-          c.match-frozen.out w.fresh-begun.result c.match-frozen.begun (search rules) (search rules) (search rules)
+          c.match-frozen.out w.fresh-begun.result c.match-frozen.begun (w.frozen-is ∙ w.in-None.is) w.out-is w.begun-is
           (starts.fresh_began g.R.ByteSource.script g.R.ByteSource.failures c.args.options c.args.frozen.now
-          None _ _ w.fresh-begun.result (search rules) refl w.fresh-begun.ensures.fresh w.fresh-begun.ensures.refused)
+          None _ _ w.fresh-begun.result w.in-None.is refl w.fresh-begun.ensures.fresh w.fresh-begun.ensures.refused)
     ] in
     let d : Ending = record { status = c.status.result; cause = c.ending-unbegun.result.cause; wrapped = c.ending-unbegun.result.wrapped } in
     let ends : d ≡ ending_by (starts.status_after c.in-Err.stop) (Err c.in-Err.stop) =
     starts.never_ends c.in-Err.stop c.status.result c.ending-unbegun.result c.ending-unbegun.ensures c.status.ensures in
     record {
       gives = λ file t ss s. starts.never_gives c.args.options (start_of c.args.options.prefix file) ss
-          c.match-frozen.begun c.in-Err.stop (starts.status_after c.in-Err.stop) d _ _ _ _ (search rules) refl ends
+          c.match-frozen.begun c.in-Err.stop (starts.status_after c.in-Err.stop) d _ _ _ _ c.in-Err.is refl ends
           (b.gives file t);
       status = status_so c.args.sources.now _ d
           (starts.never_status c.args.options c.match-frozen.begun c.in-Err.stop (starts.status_after c.in-Err.stop) d _
-          (search rules) refl ends b.begun)
-          (λ code e. never_exited c.args.options c.match-frozen.begun c.in-Err.stop (starts.status_after c.in-Err.stop) d code (search rules) ends b.begun e);
+          c.in-Err.is refl ends b.begun)
+          (λ code e. never_exited c.args.options c.match-frozen.begun c.in-Err.stop (starts.status_after c.in-Err.stop) d code c.in-Err.is ends b.begun e);
       sized = search rules;
       read = (
         starts.never_read g.R.ByteSource.script g.R.ByteSource.failures
             c.args.sources.now c.args.sources.now c.args.options c.match-frozen.begun c.in-Err.stop
-            (starts.status_after c.in-Err.stop) d (search rules) refl ends b.begun
+            (starts.status_after c.in-Err.stop) d c.in-Err.is refl ends b.begun
             (all_sound g.R.ByteSource.failures c.args.sources.now),
         starts.never_frozen g.R.ByteSource.failures c.args.frozen.now c.match-frozen.frozen c.args.options
-            c.match-frozen.begun c.in-Err.stop (starts.status_after c.in-Err.stop) d (search rules) refl ends b.begun b.read,
+            c.match-frozen.begun c.in-Err.stop (starts.status_after c.in-Err.stop) d c.in-Err.is refl ends b.begun b.read,
       );
       write = starts.never_wrote c.args.options c.match-frozen.begun c.in-Err.stop (starts.status_after c.in-Err.stop) d _ _ _ _
           (three g.Z.ByteSink.contents
           (both g.O.ByteSink.contents g.M.ByteSink.contents c.args.out.now c.match-frozen.out c.args.messages.now
-          c.args.messages.now) c.args.freeze_to.now c.args.freeze_to.now) (search rules) refl
+          c.args.messages.now) c.args.freeze_to.now c.args.freeze_to.now) c.in-Err.is refl
           ends b.begun refl b.write;
       taken = none_taken_yet g.R.ByteSource.script c.args.sources.now;
       one_pass = λ file t. never_passed g.R.ByteSource.script c.args.sources.now c.args.options
           (start_of c.args.options.prefix file) _ c.match-frozen.begun c.in-Err.stop (starts.status_after c.in-Err.stop)
-          d (search rules) ends b.begun;
+          d c.in-Err.is ends b.begun;
       order = λ file t ss s. never_told c.args.options (start_of c.args.options.prefix file) ss c.match-frozen.begun
-          c.in-Err.stop (starts.status_after c.in-Err.stop) d _ _ _ (search rules) ends (b.gives file t);
+          c.in-Err.stop (starts.status_after c.in-Err.stop) d _ _ _ c.in-Err.is ends (b.gives file t);
       refused = λ fault e. starts.never_done c.args.sources.now c.args.options c.match-frozen.begun c.in-Err.stop
-          (starts.status_after c.in-Err.stop) d fault _ _ _ _ (search rules) refl ends b.begun e (b.refused fault);
+          (starts.status_after c.in-Err.stop) d fault _ _ _ _ c.in-Err.is refl ends b.begun e (b.refused fault);
       last = λ file t ss s. last_unused d.cause _ _ _ _ refl;
       spared = (
         search rules,
@@ -83,16 +82,15 @@ returns g c =
     (g.O.ByteSink.failures c.args.out.now) (g.O.ByteSink.failures c.match-frozen.out) c.match-frozen.begun = elim c.match-frozen.branch [
       | in-Some w ↦ starts.began_so g.R.ByteSource.script g.R.ByteSource.failures c.args.options c.args.frozen.now
           (Some w.reload-begun.new.frozen) c.match-frozen.frozen g.O.ByteSink.contents g.O.ByteSink.failures c.args.out.now
-          w.reload-begun.new.out c.match-frozen.out w.reload-begun.result c.match-frozen.begun (search rules) (search rules)
-          (search rules)
+          w.reload-begun.new.out c.match-frozen.out w.reload-begun.result c.match-frozen.begun w.frozen-is w.out-is w.begun-is
           (starts.reload_began g.R.ByteSource.script g.R.ByteSource.failures c.args.options c.args.frozen.now
           (Some w.reload-begun.new.frozen) w.in-Some.reader w.reload-begun.new.frozen _ _ _ _ w.reload-begun.result
-          (search rules) refl w.reload-begun.ensures.gives w.reload-begun.ensures.read w.reload-begun.ensures.write)
+          w.in-Some.is refl w.reload-begun.ensures.gives w.reload-begun.ensures.read w.reload-begun.ensures.write)
       | in-None w ↦ starts.began_so g.R.ByteSource.script g.R.ByteSource.failures c.args.options c.args.frozen.now
           None c.match-frozen.frozen g.O.ByteSink.contents g.O.ByteSink.failures c.args.out.now c.args.out.now
-          c.match-frozen.out w.fresh-begun.result c.match-frozen.begun (search rules) (search rules) (search rules)
+          c.match-frozen.out w.fresh-begun.result c.match-frozen.begun (w.frozen-is ∙ w.in-None.is) w.out-is w.begun-is
           (starts.fresh_began g.R.ByteSource.script g.R.ByteSource.failures c.args.options c.args.frozen.now
-          None _ _ w.fresh-begun.result (search rules) refl w.fresh-begun.ensures.fresh w.fresh-begun.ensures.refused)
+          None _ _ w.fresh-begun.result w.in-None.is refl w.fresh-begun.ensures.fresh w.fresh-begun.ensures.refused)
     ] in
     record {
       gives = λ file t ss s. starts.begun_gives c.args.options (start_of c.args.options.prefix file) ss c.in-Ok.session
@@ -103,10 +101,10 @@ returns g c =
           c.read_to_end-answer.ensures.left (search rules) (search rules)) (λ code e.
           left_exited c.args.sources.now c.read_to_end-answer.new.sources c.read_to_end-answer.new.session
           c.read_to_end-answer.result c.ending.result code c.read_to_end-answer.ensures.left (search rules) e
-          (λ r. c.read_to_end-answer.ensures.marks.exited code r (begun_unmissed c.args.options c.in-Ok.session c.match-frozen.begun (search rules) b.begun)));
+          (λ r. c.read_to_end-answer.ensures.marks.exited code r (begun_unmissed c.args.options c.in-Ok.session c.match-frozen.begun c.in-Ok.is b.begun)));
       sized = λ file t ss s e f.
           starts.begun_state IsSized c.args.options (start_of c.args.options.prefix file) ss c.in-Ok.session
-          c.match-frozen.begun _ _ (search rules) (b.gives file t)
+          c.match-frozen.begun _ _ c.in-Ok.is (b.gives file t)
           (starts.ended_done _ c.read_to_end-answer.new.session _ c.read_to_end-answer.result c.ending.result
           c.ending.ensures c.read_to_end-answer.ensures.left e (c.read_to_end-answer.ensures.frozen ss s).sized f);
       read = (
@@ -114,16 +112,16 @@ returns g c =
             c.read_to_end-answer.result c.ending.result c.ending.ensures c.read_to_end-answer.ensures.reads.failed,
         starts.begun_frozen g.R.ByteSource.failures c.args.frozen.now c.match-frozen.frozen c.in-Ok.session
             c.match-frozen.begun c.read_to_end-answer.new.session _ c.read_to_end-answer.result c.ending.result
-            (search rules) c.ending.ensures c.read_to_end-answer.ensures.left b.read,
+            c.in-Ok.is c.ending.ensures c.read_to_end-answer.ensures.left b.read,
       );
       write = search rules;
       taken = search rules;
       order = λ file t ss s. run_told c.args.options (start_of c.args.options.prefix file) ss c.in-Ok.session
-          c.match-frozen.begun _ _ _ _ _ _ c.read_to_end-answer.result c.ending.result (search rules) (b.gives file t)
+          c.match-frozen.begun _ _ _ _ _ _ c.read_to_end-answer.result c.ending.result c.in-Ok.is (b.gives file t)
           c.ending.ensures (c.read_to_end-answer.ensures.writes ss s).order;
       one_pass = λ file t. passed g.R.ByteSource.script c.args.sources.now c.read_to_end-answer.new.sources c.args.options
           (start_of c.args.options.prefix file) c.in-Ok.session c.match-frozen.begun _ c.read_to_end-answer.result
-          c.ending.result _ _ _ _ _ (search rules) c.ending.ensures (b.gives file t)
+          c.ending.result _ _ _ _ _ c.in-Ok.is c.ending.ensures (b.gives file t)
           c.read_to_end-answer.ensures.reads.reached;
       refused = λ fault e. absurd (starts.not_refused c.read_to_end-answer.new.session _ c.read_to_end-answer.result
           c.ending.result fault c.ending.ensures c.read_to_end-answer.ensures.left e);
