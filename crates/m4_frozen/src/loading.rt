@@ -105,12 +105,13 @@ impl Loading {
         })
     }
 
-    /// Returns how many bytes of an open text have not been read yet.
-    pub(crate) fn missing(&self) -> usize {
+    /// Returns whether strings are to share the next block, of about `usual` bytes: not if it is a part of one text. Nor
+    /// after an open diversion, since diversions come last in most files.
+    pub(crate) fn shares_next(&self, usual: usize) -> bool {
         match &self.begun {
-            None => 0,
-            Some(Begun::Diversion(missing)) => *missing,
-            Some(Begun::Name(text)) => text.missing,
+            None => true,
+            Some(Begun::Name(text)) => text.missing < usual,
+            Some(Begun::Diversion(_)) => false,
         }
     }
 

@@ -49,9 +49,7 @@ pub fn read_frozen<R: ByteSource>(alloc: Global, reader: &mut R) -> Result<Loade
     let mut account = Account::new();
     loop {
         let usual = account.block_len();
-        // No string shares a block that is a part of one text.
-        let shares = loading.missing() < usual;
-        let after = window.fill(alloc, usual, shares, reader)?;
+        let after = window.fill(alloc, usual, loading.shares_next(usual), reader)?;
         let pause = read_window(alloc, &mut loading, &mut account, &window)?;
         match after {
             BlockRead::More => window.keep_last(pause.left)?,
