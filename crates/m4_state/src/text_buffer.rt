@@ -211,11 +211,13 @@ impl TextBuffer {
         ensures sized { OnOk result (length self.new < 2 ^ 64) }
     {
         self.room.truncate(self.len);
-        self.room.extend_from_slice(text)?;
-        let end = self.room.len();
+        let end = self.len.saturating_add(text.len());
         let added = ADDED + end / SHARE;
-        self.room.resize(end.saturating_add(added), 0)?;
-        self.len = end;
+        // At once, so that a long text is not moved for the room behind it.
+        self.room.reserve(text.len().saturating_add(added))?;
+        self.room.extend_from_slice(text)?;
+        self.len = self.room.len();
+        self.room.resize(self.len.saturating_add(added), 0)?;
         Ok(())
     }
 
