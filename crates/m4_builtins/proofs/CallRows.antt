@@ -1,16 +1,20 @@
 -- CallRows: worked calls, computed from the definitions. Each says the whole state and effect; a text
 -- that is pushed counts as none where it is empty.
-use Rattle.std.proofs.Common.{Some, None, ◌≡◌, ℕ, List, [], ◌∷◌, Option, Bool, false, refl}
+use Prim.Native.String.{String}
+use Rattle.std.proofs.Common.{Some, None, ◌≡◌, ℕ, ℤ, List, [], ◌∷◌, ◌++◌, map, Option, Bool, false, refl}
 use Rattle.std.specs.Prelude.{codes, pos, negsuc}
 use Rattle.std.specs.Fmt.{digits}
+use Rattle.m4_state.specs.declared.builtin.Builtin.{Builtin}
 use Rattle.m4_state.specs.declared.builtin.Builtin.TheVariants.{Define, Defn, Dnl, Dumpdef, Ifdef, Ifelse, Indir}
 use Rattle.m4_state.specs.declared.builtin.Builtin.TheVariants.{IndirBuiltin, Len, Popdef, Pushdef, Shift, Undefine}
 use Rattle.m4_state.specs.declared.definition.Def.{Def}
 use Rattle.m4_state.specs.declared.definition.Def.TheVariants as defs
 use Rattle.m4_state.specs.Delimiters.{default_quotes, default_comments}
-use Rattle.m4_state.specs.State.{State}
+use Rattle.m4_state.specs.State.{State, NumberedText}
+use Rattle.m4_state.specs.Table.{Pairs}
 use Rattle.m4_input.specs.declared.pushed.Pushed.{Pushed}
 use Rattle.m4_input.specs.declared.pushed.Pushed.TheVariants as pushes
+use Rattle.m4_builtins.specs.declared.args.Arg.{Arg}
 use Rattle.m4_builtins.specs.declared.args.Arg.TheVariants as args
 use Rattle.m4_builtins.specs.declared.place.Place.{Place}
 use Rattle.m4_builtins.specs.Act.{Acted, act}
@@ -70,24 +74,33 @@ below = record { file = codes "b.m4"; line = 12 }
 abbrev pub wrapped : Place
 wrapped = record { file = []; line = 0 }
 
-abbrev pub bare : State
-bare = record {
-  table = [];
+-- a name with its definitions, and a definition that is text
+abbrev pub macro : String → List Def → List ℕ × List Def
+macro name stack = (codes name, stack)
+
+abbrev pub body : String → Def
+body x = defs.Text (codes x)
+
+-- a state with these macros, and one with these diversions
+abbrev pub over : Pairs → State
+over table = record {
+  table = table;
   quotes = default_quotes;
   comments = default_comments;
   diversions = [];
   current = pos 0;
 }
 
+abbrev pub diverted : List NumberedText → ℤ → State
+diverted diversions current = record (over []) { diversions = diversions; current = current }
+
+abbrev pub bare : State
+bare = over []
+
 abbrev pub named : State
-named = record {
-  table = (codes "a", defs.Text (codes "1") ∷ []) ∷ (codes "b", defs.Text (codes "1") ∷ defs.Text (codes "2") ∷ [])
-      ∷ (codes "cut", defs.Builtin Shift ∷ []) ∷ (codes "old", defs.Placeholder (codes "regexp") ∷ []) ∷ [];
-  quotes = default_quotes;
-  comments = default_comments;
-  diversions = [];
-  current = pos 0;
-}
+named = over (
+    macro "a" (body "1" ∷ []) ∷ macro "b" (body "1" ∷ body "2" ∷ [])
+    ∷ macro "cut" (defs.Builtin Shift ∷ []) ∷ macro "old" (defs.Placeholder (codes "regexp") ∷ []) ∷ [])
 
 abbrev pub bracketed : State
 bracketed = record {
@@ -108,588 +121,257 @@ unquoted = record {
 }
 
 abbrev pub split : State
-split = record {
-  table = [];
-  quotes = default_quotes;
-  comments = default_comments;
-  diversions = (pos 1, codes "one\n") ∷ (pos 2, codes "two\n") ∷ (pos 5, codes "five") ∷ [];
-  current = pos 0;
-}
+split = diverted ((pos 1, codes "one\n") ∷ (pos 2, codes "two\n") ∷ (pos 5, codes "five") ∷ []) (pos 0)
 
 abbrev pub diverting : State
-diverting = record {
-  table = [];
-  quotes = default_quotes;
-  comments = default_comments;
-  diversions = (pos 1, codes "one\n") ∷ (pos 2, codes "two\n") ∷ [];
-  current = pos 2;
-}
+diverting = diverted ((pos 1, codes "one\n") ∷ (pos 2, codes "two\n") ∷ []) (pos 2)
 
 abbrev pub discarding : State
-discarding = record {
-  table = [];
-  quotes = default_quotes;
-  comments = default_comments;
-  diversions = (pos 1, codes "one\n") ∷ (pos 2, codes "two\n") ∷ [];
-  current = negsuc 0;
-}
+discarding = diverted ((pos 1, codes "one\n") ∷ (pos 2, codes "two\n") ∷ []) (negsuc 0)
 
 abbrev pub indirect : State
-indirect = record {
-  table = (codes "a b", defs.Text (codes "<$0:$1>") ∷ []) ∷ (codes "define", defs.Builtin Define ∷ [])
-      ∷ (codes "i", defs.Builtin Indir ∷ []) ∷ (codes "j", defs.Builtin IndirBuiltin ∷ []) ∷ [];
-  quotes = default_quotes;
-  comments = default_comments;
-  diversions = [];
-  current = pos 0;
-}
+indirect = over (
+    macro "a b" (body "<$0:$1>" ∷ []) ∷ macro "define" (defs.Builtin Define ∷ [])
+    ∷ macro "i" (defs.Builtin Indir ∷ []) ∷ macro "j" (defs.Builtin IndirBuiltin ∷ []) ∷ [])
 
--- pushdef adds to a name's definitions
-pushdef_adds_to_a_names_definitions : seen (act (defs.Builtin Pushdef) [] (args.Text (codes "a") ∷ args.Text (codes "2") ∷ []) here named)
-    ≡ still (record {
-      table = (codes "a", defs.Text (codes "1") ∷ defs.Text (codes "2") ∷ [])
-          ∷ (codes "b", defs.Text (codes "1") ∷ defs.Text (codes "2") ∷ []) ∷ (codes "cut", defs.Builtin Shift ∷ [])
-          ∷ (codes "old", defs.Placeholder (codes "regexp") ∷ []) ∷ [];
-      quotes = default_quotes;
-      comments = default_comments;
-      diversions = [];
-      current = pos 0;
+-- an argument that is text, and one that is a builtin's definition
+abbrev pub text : String → Arg
+text x = args.Text (codes x)
+
+abbrev pub texts : List String → List Arg
+texts xs = map text xs
+
+abbrev pub token : Builtin → Arg
+token b = args.Definition (defs.Builtin b)
+
+-- warnings at `here`, a line each
+abbrev pub warnings : List String → List ℕ
+warnings [] = []
+warnings (w ∷ ws) = codes "m4:a.m4:1: Warning: " ++ codes w ++ codes "\n" ++ warnings ws
+
+-- a text is pushed, and these warnings come
+abbrev pub answer : State → String → List String → Seen
+answer s x ws = record (still s) { text = codes x; messages = warnings ws }
+
+-- A row of texts: what it shows, the arguments, the text that is pushed and the warnings. The state stays.
+abbrev pub Answers : Builtin → State → List (String × List String × String × List String) → Type 0
+Answers b s rows =
+    map (λ row. seen (act (defs.Builtin b) [] (texts row.1) here s)) rows
+    ≡ map (λ row. answer s row.2 row.3) rows
+
+-- A row of any call: what it shows, the builtin, the arguments, the place, the state and what is to be seen.
+abbrev pub Call : Type 0
+Call = String × Builtin × List Arg × Place × State × Seen
+
+abbrev pub row : String → Builtin → List Arg → Place → State → Seen → Call
+row shows b xs p s r = (shows, b, xs, p, s, r)
+
+abbrev pub Calls : List Call → Type 0
+Calls rows = map (λ row. seen (act (defs.Builtin row.1) [] row.2 row.3 row.4)) rows ≡ map (λ row. row.5) rows
+
+-- `pushdef` and `define`
+define_rows : Calls (
+    row "pushdef adds to a name's definitions" Pushdef (texts ("a" ∷ "2" ∷ [])) here named
+    (still (over (macro "a" (body "1" ∷ body "2" ∷ []) ∷ macro "b" (body "1" ∷ body "2" ∷ [])
+    ∷ macro "cut" (defs.Builtin Shift ∷ []) ∷ macro "old" (defs.Placeholder (codes "regexp") ∷ []) ∷ [])))
+    ∷ row "pushdef of a new name goes to its place" Pushdef (texts ("bb" ∷ "x" ∷ [])) here named
+    (still (over (macro "a" (body "1" ∷ []) ∷ macro "b" (body "1" ∷ body "2" ∷ []) ∷ macro "bb" (body "x" ∷ [])
+    ∷ macro "cut" (defs.Builtin Shift ∷ []) ∷ macro "old" (defs.Placeholder (codes "regexp") ∷ []) ∷ [])))
+    ∷ row "pushdef without a text" Pushdef (texts ("a" ∷ [])) here bare (still (over (macro "a" (body "" ∷ []) ∷ [])))
+    ∷ row "pushdef of a builtin" Pushdef (text "a" ∷ token Shift ∷ []) here named
+    (still (over (macro "a" (body "1" ∷ defs.Builtin Shift ∷ []) ∷ macro "b" (body "1" ∷ body "2" ∷ [])
+    ∷ macro "cut" (defs.Builtin Shift ∷ []) ∷ macro "old" (defs.Placeholder (codes "regexp") ∷ []) ∷ [])))
+    ∷ row "pushdef cannot name a builtin" Pushdef (token Shift ∷ text "x" ∷ []) here named
+    (answer named "" ("invalid macro name ignored in builtin `pushdef'" ∷ []))
+    ∷ row "pushdef with one argument too many" Pushdef (texts ("a" ∷ "b" ∷ "c" ∷ [])) here bare
+    (answer (over (macro "a" (body "b" ∷ []) ∷ [])) "" ("excess arguments to builtin `pushdef' ignored" ∷ []))
+    ∷ row "define keeps what lies below the top" Define (texts ("b" ∷ "3" ∷ [])) here named
+    (still (over (macro "a" (body "1" ∷ []) ∷ macro "b" (body "1" ∷ body "3" ∷ [])
+    ∷ macro "cut" (defs.Builtin Shift ∷ []) ∷ macro "old" (defs.Placeholder (codes "regexp") ∷ []) ∷ [])))
+    ∷ row "define without arguments" Define [] here bare (answer bare "" ("too few arguments to builtin `define'" ∷ []))
+    ∷ row "define cannot name a builtin, and has one argument too many" Define
+    (token Dnl ∷ text "x" ∷ text "y" ∷ []) wrapped bare
+    (record (still bare) {
+      messages = codes "m4: Warning: excess arguments to builtin `define' ignored\n"
+          ++ codes "m4: Warning: invalid macro name ignored in builtin `define'\n";
     })
+    ∷ [])
 unfolding digits
-pushdef_adds_to_a_names_definitions = refl
+define_rows = refl
 
--- pushdef of a new name goes to its place
-pushdef_of_a_new_name_goes_to_its_place : seen (act (defs.Builtin Pushdef) [] (args.Text (codes "bb") ∷ args.Text (codes "x") ∷ []) here named)
-    ≡ still (record {
-      table = (codes "a", defs.Text (codes "1") ∷ []) ∷ (codes "b", defs.Text (codes "1") ∷ defs.Text (codes "2") ∷ [])
-          ∷ (codes "bb", defs.Text (codes "x") ∷ []) ∷ (codes "cut", defs.Builtin Shift ∷ [])
-          ∷ (codes "old", defs.Placeholder (codes "regexp") ∷ []) ∷ [];
-      quotes = default_quotes;
-      comments = default_comments;
-      diversions = [];
-      current = pos 0;
+-- `popdef` and `undefine`
+undefine_rows : Calls (
+    row "popdef takes the top one" Popdef (texts ("b" ∷ [])) here named
+    (still (over (macro "a" (body "1" ∷ []) ∷ macro "b" (body "1" ∷ []) ∷ macro "cut" (defs.Builtin Shift ∷ [])
+    ∷ macro "old" (defs.Placeholder (codes "regexp") ∷ []) ∷ [])))
+    ∷ row "popdef of the last one takes the name away" Popdef (texts ("a" ∷ [])) here named
+    (still (over (macro "b" (body "1" ∷ body "2" ∷ []) ∷ macro "cut" (defs.Builtin Shift ∷ [])
+    ∷ macro "old" (defs.Placeholder (codes "regexp") ∷ []) ∷ [])))
+    ∷ row "popdef of several, an unknown one and one twice" Popdef (texts ("z" ∷ "b" ∷ "b" ∷ "cut" ∷ [])) here named
+    (still (over (macro "a" (body "1" ∷ []) ∷ macro "old" (defs.Placeholder (codes "regexp") ∷ []) ∷ [])))
+    ∷ row "popdef of a definition token pops the empty name" Popdef (token Shift ∷ []) here named (still named)
+    ∷ row "undefine takes all away" Undefine (texts ("b" ∷ "old" ∷ [])) here named
+    (still (over (macro "a" (body "1" ∷ []) ∷ macro "cut" (defs.Builtin Shift ∷ []) ∷ [])))
+    ∷ [])
+unfolding digits
+undefine_rows = refl
+
+-- `defn` of texts, and the warning of each builtin that it drops
+abbrev dropped : String
+dropped = "builtin dropped from text"
+
+defn_rows : Answers Defn named (
+    ("defn of a text", "b" ∷ [], "`2'", [])
+    ∷ ("defn of an unknown name", "z" ∷ [], "", [])
+    ∷ ("defn of several drops the builtins", "a" ∷ "cut" ∷ "b" ∷ "old" ∷ "z" ∷ [], "`1'`2'", dropped ∷ dropped ∷ [])
+    ∷ ("defn of several that hold no builtin", "a" ∷ "z" ∷ [], "`1'", [])
+    ∷ ("defn without arguments", [], "", "too few arguments to builtin `defn'" ∷ [])
+    ∷ [])
+unfolding digits
+defn_rows = refl
+
+-- `defn` of builtins, and with other quotes
+other_defn_rows : Calls (
+    row "defn of a builtin" Defn (texts ("cut" ∷ [])) here named
+    (record (still named) { definition = Some (defs.Builtin Shift) })
+    ∷ row "defn of a placeholder" Defn (texts ("old" ∷ [])) here named
+    (record (still named) { definition = Some (defs.Placeholder (codes "regexp")) })
+    ∷ row "defn with other quotes" Defn (texts ("a" ∷ [])) here bracketed (answer bracketed "[1]" [])
+    ∷ row "defn with quotes disabled" Defn (texts ("a" ∷ [])) here unquoted (answer unquoted "1" [])
+    ∷ [])
+unfolding digits
+other_defn_rows = refl
+
+-- `dumpdef`
+dumpdef_rows : Calls (
+    row "dumpdef of several, one unknown, one twice" Dumpdef
+    (texts ("b" ∷ "z" ∷ "a" ∷ "y" ∷ "b" ∷ "cut" ∷ "old" ∷ [])) here named
+    (record (still named) {
+      messages = warnings ("undefined macro `z'" ∷ "undefined macro `y'" ∷ [])
+          ++ codes "a:\t`1'\nb:\t`2'\nb:\t`2'\ncut:\t<shift>\nold:\t<regexp>\n";
     })
+    ∷ row "dumpdef of all" Dumpdef [] here named
+    (record (still named) { messages = codes "a:\t`1'\nb:\t`2'\ncut:\t<shift>\nold:\t<regexp>\n" })
+    ∷ row "dumpdef of all where there is none" Dumpdef [] here bare (still bare)
+    ∷ row "dumpdef with other quotes" Dumpdef (texts ("a" ∷ [])) here bracketed
+    (record (still bracketed) { messages = codes "a:\t[1]\n" })
+    ∷ [])
 unfolding digits
-pushdef_of_a_new_name_goes_to_its_place = refl
+dumpdef_rows = refl
 
--- pushdef without a text
-pushdef_without_a_text : seen (act (defs.Builtin Pushdef) [] (args.Text (codes "a") ∷ []) here bare)
-    ≡ still (record {
-      table = (codes "a", defs.Text [] ∷ []) ∷ [];
-      quotes = default_quotes;
-      comments = default_comments;
-      diversions = [];
-      current = pos 0;
-    })
+-- `indir`
+indir_rows : Answers Indir indirect (
+    ("indir of a text: the name is that of the inner call", "a b" ∷ "x" ∷ [], "<a b:x>", [])
+    ∷ ("indir of an unknown name", "no" ∷ "x" ∷ [], "", "undefined macro `no'" ∷ [])
+    ∷ ("indir without arguments", [], "", "too few arguments to builtin `indir'" ∷ [])
+    ∷ ("indir of the empty name", "" ∷ [], "", "undefined macro `'" ∷ [])
+    ∷ ("indir of define without arguments", "define" ∷ [], "", "too few arguments to builtin `define'" ∷ [])
+    ∷ ("indir of indir of builtin of indir of a text", "i" ∷ "j" ∷ "indir" ∷ "a b" ∷ "x" ∷ "y" ∷ [], "<a b:x>", [])
+    ∷ ("indir of builtin without more", "j" ∷ [], "", "too few arguments to builtin `builtin'" ∷ [])
+    ∷ [])
 unfolding digits
-pushdef_without_a_text = refl
+indir_rows = refl
 
--- pushdef of a builtin
-pushdef_of_a_builtin : seen (act (defs.Builtin Pushdef) [] (args.Text (codes "a") ∷ (args.Definition (defs.Builtin Shift)) ∷ []) here named)
-    ≡ still (record {
-      table = (codes "a", defs.Text (codes "1") ∷ defs.Builtin Shift ∷ [])
-          ∷ (codes "b", defs.Text (codes "1") ∷ defs.Text (codes "2") ∷ []) ∷ (codes "cut", defs.Builtin Shift ∷ [])
-          ∷ (codes "old", defs.Placeholder (codes "regexp") ∷ []) ∷ [];
-      quotes = default_quotes;
-      comments = default_comments;
-      diversions = [];
-      current = pos 0;
-    })
+-- `indir` of a builtin that changes the state, and of a placeholder
+other_indir_rows : Calls (
+    row "indir of define" Indir (texts ("define" ∷ "a b" ∷ "$1" ∷ [])) here indirect
+    (still (over (macro "a b" (body "$1" ∷ []) ∷ macro "define" (defs.Builtin Define ∷ [])
+    ∷ macro "i" (defs.Builtin Indir ∷ []) ∷ macro "j" (defs.Builtin IndirBuiltin ∷ []) ∷ [])))
+    ∷ row "indir of a placeholder" Indir (texts ("old" ∷ "x" ∷ [])) here named
+    (answer named "" ("builtin `regexp' requested by frozen file is not supported" ∷ []))
+    ∷ [])
 unfolding digits
-pushdef_of_a_builtin = refl
+other_indir_rows = refl
 
--- pushdef cannot name a builtin
-pushdef_cannot_name_a_builtin : seen (act (defs.Builtin Pushdef) [] ((args.Definition (defs.Builtin Shift)) ∷ args.Text (codes "x") ∷ []) here named)
-    ≡ record (still named) { messages = codes "m4:a.m4:1: Warning: invalid macro name ignored in builtin `pushdef'\n" }
+-- `builtin`
+builtin_rows : Answers IndirBuiltin bare (
+    ("builtin by its own name, though no macro has it", "shift" ∷ "p" ∷ "q" ∷ [], "`q'", [])
+    ∷ ("builtin of an unknown name", "shfit" ∷ "p" ∷ [], "", "undefined builtin `shfit'" ∷ [])
+    ∷ ("builtin of a name that another m4 has", "regexp" ∷ "p" ∷ [], "", "undefined builtin `regexp'" ∷ [])
+    ∷ ("builtin without arguments", [], "", "too few arguments to builtin `builtin'" ∷ [])
+    ∷ [])
 unfolding digits
-pushdef_cannot_name_a_builtin = refl
+builtin_rows = refl
 
--- pushdef with one argument too many
-pushdef_with_one_argument_too_many : seen (act (defs.Builtin Pushdef) [] (args.Text (codes "a") ∷ args.Text (codes "b") ∷ args.Text (codes "c") ∷ []) here bare)
-    ≡ record (still (record {
-      table = (codes "a", defs.Text (codes "b") ∷ []) ∷ [];
-      quotes = default_quotes;
-      comments = default_comments;
-      diversions = [];
-      current = pos 0;
-    })) { messages = codes "m4:a.m4:1: Warning: excess arguments to builtin `pushdef' ignored\n" }
+-- `builtin` of a definition, and of a builtin that changes the state
+other_builtin_rows : Calls (
+    row "builtin of a definition" IndirBuiltin (token Shift ∷ []) here bare
+    (answer bare "" ("invalid macro name ignored in builtin `builtin'" ∷ []))
+    ∷ row "builtin of define with one argument too many" IndirBuiltin
+    (texts ("define" ∷ "x" ∷ "y" ∷ "z" ∷ [])) here bare
+    (answer (over (macro "x" (body "y" ∷ []) ∷ [])) "" ("excess arguments to builtin `define' ignored" ∷ []))
+    ∷ [])
 unfolding digits
-pushdef_with_one_argument_too_many = refl
+other_builtin_rows = refl
 
--- define keeps what lies below the top
-define_keeps_what_lies_below_the_top : seen (act (defs.Builtin Define) [] (args.Text (codes "b") ∷ args.Text (codes "3") ∷ []) here named)
-    ≡ still (record {
-      table = (codes "a", defs.Text (codes "1") ∷ []) ∷ (codes "b", defs.Text (codes "1") ∷ defs.Text (codes "3") ∷ [])
-          ∷ (codes "cut", defs.Builtin Shift ∷ []) ∷ (codes "old", defs.Placeholder (codes "regexp") ∷ []) ∷ [];
-      quotes = default_quotes;
-      comments = default_comments;
-      diversions = [];
-      current = pos 0;
-    })
+-- `ifdef`
+ifdef_rows : Answers Ifdef named (
+    ("ifdef of a name that has a definition", "a" ∷ "y" ∷ "n" ∷ [], "y", [])
+    ∷ ("ifdef of one that has none", "z" ∷ "y" ∷ "n" ∷ [], "n", [])
+    ∷ ("ifdef without a third argument", "z" ∷ "y" ∷ [], "", [])
+    ∷ ("ifdef with one argument", "a" ∷ [], "", "too few arguments to builtin `ifdef'" ∷ [])
+    ∷ ("ifdef with four", "a" ∷ "y" ∷ "n" ∷ "m" ∷ [], "y", "excess arguments to builtin `ifdef' ignored" ∷ [])
+    ∷ [])
 unfolding digits
-define_keeps_what_lies_below_the_top = refl
+ifdef_rows = refl
 
--- define without arguments
-define_without_arguments : seen (act (defs.Builtin Define) [] ([]) here bare)
-    ≡ record (still bare) { messages = codes "m4:a.m4:1: Warning: too few arguments to builtin `define'\n" }
-unfolding digits
-define_without_arguments = refl
+-- `ifelse`, and the warning of an argument too many
+abbrev excess : String
+excess = "excess arguments to builtin `ifelse' ignored"
 
--- define cannot name a builtin, and has one argument too many
-define_cannot_name_a_builtin : seen (act (defs.Builtin Define) []
-    ((args.Definition (defs.Builtin Dnl)) ∷ args.Text (codes "x") ∷ args.Text (codes "y") ∷ []) wrapped bare)
-    ≡ record (still bare) {
-      messages = codes
-          "m4: Warning: excess arguments to builtin `define' ignored\nm4: Warning: invalid macro name ignored in builtin `define'\n";
-    }
+ifelse_rows : Answers Ifelse bare (
+    ("ifelse with one argument", "a" ∷ [], "", [])
+    ∷ ("ifelse with two", "a" ∷ "b" ∷ [], "", "too few arguments to builtin `ifelse'" ∷ [])
+    ∷ ("ifelse of equal texts", "a" ∷ "a" ∷ "y" ∷ [], "y", [])
+    ∷ ("ifelse of texts that differ", "a" ∷ "b" ∷ "y" ∷ [], "", [])
+    ∷ ("ifelse with another result", "a" ∷ "b" ∷ "1" ∷ "2" ∷ [], "2", [])
+    ∷ ("ifelse with one argument too many", "a" ∷ "b" ∷ "c" ∷ "d" ∷ "e" ∷ [], "d", excess ∷ [])
+    ∷ ("ifelse with one too many where the first pair is equal", "a" ∷ "a" ∷ "c" ∷ "d" ∷ "e" ∷ [], "c", excess ∷ [])
+    ∷ ("ifelse of two pairs", "a" ∷ "b" ∷ "1" ∷ "c" ∷ "c" ∷ "2" ∷ "3" ∷ [], "2", [])
+    ∷ ("ifelse of two pairs that differ, without another result", "a" ∷ "b" ∷ "1" ∷ "c" ∷ "d" ∷ "2" ∷ [], "", [])
+    ∷ ("ifelse of eight", "a" ∷ "b" ∷ "1" ∷ "c" ∷ "d" ∷ "2" ∷ "3" ∷ "4" ∷ [], "3", excess ∷ [])
+    ∷ ("ifelse of ten", "a" ∷ "b" ∷ "1" ∷ "c" ∷ "d" ∷ "2" ∷ "e" ∷ "e" ∷ "3" ∷ "4" ∷ [], "3", [])
+    ∷ [])
 unfolding digits
-define_cannot_name_a_builtin = refl
+ifelse_rows = refl
 
--- popdef takes the top one
-popdef_takes_the_top_one : seen (act (defs.Builtin Popdef) [] (args.Text (codes "b") ∷ []) here named)
-    ≡ still (record {
-      table = (codes "a", defs.Text (codes "1") ∷ []) ∷ (codes "b", defs.Text (codes "1") ∷ [])
-          ∷ (codes "cut", defs.Builtin Shift ∷ []) ∷ (codes "old", defs.Placeholder (codes "regexp") ∷ []) ∷ [];
-      quotes = default_quotes;
-      comments = default_comments;
-      diversions = [];
-      current = pos 0;
-    })
+-- `shift`
+shift_rows : Answers Shift bare (
+    ("shift quotes each argument but the first", "a" ∷ "b" ∷ "" ∷ "c" ∷ [], "`b',`',`c'", [])
+    ∷ ("shift of one argument", "a" ∷ [], "", [])
+    ∷ ("shift without arguments", [], "", [])
+    ∷ [])
 unfolding digits
-popdef_takes_the_top_one = refl
+shift_rows = refl
 
--- popdef of the last one takes the name away
-popdef_of_the_last_one_takes_the_name_away : seen (act (defs.Builtin Popdef) [] (args.Text (codes "a") ∷ []) here named)
-    ≡ still (record {
-      table = (codes "b", defs.Text (codes "1") ∷ defs.Text (codes "2") ∷ []) ∷ (codes "cut", defs.Builtin Shift ∷ [])
-          ∷ (codes "old", defs.Placeholder (codes "regexp") ∷ []) ∷ [];
-      quotes = default_quotes;
-      comments = default_comments;
-      diversions = [];
-      current = pos 0;
-    })
+-- Another place, and definitions as arguments.
+other_rows : Calls (
+    row "a warning at a place" Indir (texts ("q" ∷ [])) below bare
+    (record (still bare) { messages = codes "m4:b.m4:12: Warning: undefined macro `q'\n" })
+    ∷ row "indir hands definitions through" Indir (text "define" ∷ text "q" ∷ token Len ∷ []) here indirect
+    (still (over (macro "a b" (body "<$0:$1>" ∷ []) ∷ macro "define" (defs.Builtin Define ∷ [])
+    ∷ macro "i" (defs.Builtin Indir ∷ []) ∷ macro "j" (defs.Builtin IndirBuiltin ∷ [])
+    ∷ macro "q" (defs.Builtin Len ∷ []) ∷ [])))
+    ∷ row "indir of a definition" Indir (token Len ∷ text "x" ∷ []) here indirect
+    (answer indirect "" ("invalid macro name ignored in builtin `indir'" ∷ []))
+    ∷ row "ifelse takes a definition as an empty text" Ifelse (token Len ∷ text "" ∷ text "y" ∷ text "n" ∷ []) here bare
+    (answer bare "y" [])
+    ∷ row "shift with other quotes, of a definition" Shift (text "a" ∷ token Len ∷ text "b" ∷ []) here bracketed
+    (answer bracketed "[],[b]" [])
+    ∷ [])
 unfolding digits
-popdef_of_the_last_one_takes_the_name_away = refl
-
--- popdef of several, an unknown one and one twice
-popdef_of_several_an_unknown_one_and_one_twice : seen
-    (act (defs.Builtin Popdef) []
-    (args.Text (codes "z") ∷ args.Text (codes "b") ∷ args.Text (codes "b") ∷ args.Text (codes "cut") ∷ []) here named)
-    ≡ still (record {
-      table = (codes "a", defs.Text (codes "1") ∷ []) ∷ (codes "old", defs.Placeholder (codes "regexp") ∷ []) ∷ [];
-      quotes = default_quotes;
-      comments = default_comments;
-      diversions = [];
-      current = pos 0;
-    })
-unfolding digits
-popdef_of_several_an_unknown_one_and_one_twice = refl
-
--- popdef of a definition token pops the empty name
-popdef_of_a_definition_token_pops_the_empty_name : seen (act (defs.Builtin Popdef) [] ((args.Definition (defs.Builtin Shift)) ∷ []) here named)
-    ≡ still named
-unfolding digits
-popdef_of_a_definition_token_pops_the_empty_name = refl
-
--- undefine takes all away
-undefine_takes_all_away : seen (act (defs.Builtin Undefine) [] (args.Text (codes "b") ∷ args.Text (codes "old") ∷ []) here named)
-    ≡ still (record {
-      table = (codes "a", defs.Text (codes "1") ∷ []) ∷ (codes "cut", defs.Builtin Shift ∷ []) ∷ [];
-      quotes = default_quotes;
-      comments = default_comments;
-      diversions = [];
-      current = pos 0;
-    })
-unfolding digits
-undefine_takes_all_away = refl
-
--- defn of a text
-defn_of_a_text : seen (act (defs.Builtin Defn) [] (args.Text (codes "b") ∷ []) here named)
-    ≡ record (still named) { text = codes "`2'" }
-unfolding digits
-defn_of_a_text = refl
-
--- defn of a builtin
-defn_of_a_builtin : seen (act (defs.Builtin Defn) [] (args.Text (codes "cut") ∷ []) here named)
-    ≡ record (still named) { definition = Some (defs.Builtin Shift) }
-unfolding digits
-defn_of_a_builtin = refl
-
--- defn of a placeholder
-defn_of_a_placeholder : seen (act (defs.Builtin Defn) [] (args.Text (codes "old") ∷ []) here named)
-    ≡ record (still named) { definition = Some (defs.Placeholder (codes "regexp")) }
-unfolding digits
-defn_of_a_placeholder = refl
-
--- defn of an unknown name
-defn_of_an_unknown_name : seen (act (defs.Builtin Defn) [] (args.Text (codes "z") ∷ []) here named)
-    ≡ still named
-unfolding digits
-defn_of_an_unknown_name = refl
-
--- defn of several gives their texts and drops the builtins
-defn_of_several_gives_their_texts_and_drops_the_builtins : seen
-    (act (defs.Builtin Defn) [] (args.Text (codes "a") ∷ args.Text (codes "cut") ∷ args.Text (codes "b")
-    ∷ args.Text (codes "old") ∷ args.Text (codes "z") ∷ []) here named)
-    ≡ record (still named) {
-      text = codes "`1'`2'";
-      messages = codes "m4:a.m4:1: Warning: builtin dropped from text\nm4:a.m4:1: Warning: builtin dropped from text\n";
-    }
-unfolding digits
-defn_of_several_gives_their_texts_and_drops_the_builtins = refl
-
--- defn of several that hold no builtin
-defn_of_several_that_hold_no_builtin : seen (act (defs.Builtin Defn) [] (args.Text (codes "a") ∷ args.Text (codes "z") ∷ []) here named)
-    ≡ record (still named) { text = codes "`1'" }
-unfolding digits
-defn_of_several_that_hold_no_builtin = refl
-
--- defn without arguments
-defn_without_arguments : seen (act (defs.Builtin Defn) [] ([]) here named)
-    ≡ record (still named) { messages = codes "m4:a.m4:1: Warning: too few arguments to builtin `defn'\n" }
-unfolding digits
-defn_without_arguments = refl
-
--- defn with other quotes
-defn_with_other_quotes : seen (act (defs.Builtin Defn) [] (args.Text (codes "a") ∷ []) here bracketed)
-    ≡ record (still bracketed) { text = codes "[1]" }
-unfolding digits
-defn_with_other_quotes = refl
-
--- defn with quotes disabled
-defn_with_quotes_disabled : seen (act (defs.Builtin Defn) [] (args.Text (codes "a") ∷ []) here unquoted)
-    ≡ record (still unquoted) { text = codes "1" }
-unfolding digits
-defn_with_quotes_disabled = refl
-
--- dumpdef of several, one unknown, one twice
-dumpdef_of_several_one_unknown_one_twice : seen
-    (act (defs.Builtin Dumpdef) []
-    (args.Text (codes "b") ∷ args.Text (codes "z") ∷ args.Text (codes "a") ∷ args.Text (codes "y")
-    ∷ args.Text (codes "b") ∷ args.Text (codes "cut") ∷ args.Text (codes "old") ∷ []) here named)
-    ≡ record (still named) {
-      messages =
-          codes
-          "m4:a.m4:1: Warning: undefined macro `z'\nm4:a.m4:1: Warning: undefined macro `y'\na:\t`1'\nb:\t`2'\nb:\t`2'\ncut:\t<shift>\nold:\t<regexp>\n";
-    }
-unfolding digits
-dumpdef_of_several_one_unknown_one_twice = refl
-
--- dumpdef of all
-dumpdef_of_all : seen (act (defs.Builtin Dumpdef) [] ([]) here named)
-    ≡ record (still named) { messages = codes "a:\t`1'\nb:\t`2'\ncut:\t<shift>\nold:\t<regexp>\n" }
-unfolding digits
-dumpdef_of_all = refl
-
--- dumpdef of all where there is none
-dumpdef_of_all_where_there_is_none : seen (act (defs.Builtin Dumpdef) [] ([]) here bare)
-    ≡ still bare
-unfolding digits
-dumpdef_of_all_where_there_is_none = refl
-
--- dumpdef with other quotes
-dumpdef_with_other_quotes : seen (act (defs.Builtin Dumpdef) [] (args.Text (codes "a") ∷ []) here bracketed)
-    ≡ record (still bracketed) { messages = codes "a:\t[1]\n" }
-unfolding digits
-dumpdef_with_other_quotes = refl
-
--- indir of a text: the name is that of the inner call
-indir_of_a_text_the_name_is_that_of_the_inner_call : seen (act (defs.Builtin Indir) [] (args.Text (codes "a b") ∷ args.Text (codes "x") ∷ []) here indirect)
-    ≡ record (still indirect) { text = codes "<a b:x>" }
-unfolding digits
-indir_of_a_text_the_name_is_that_of_the_inner_call = refl
-
--- indir of define
-indir_of_define : seen (act (defs.Builtin Indir) [] (args.Text (codes "define") ∷ args.Text (codes "a b") ∷ args.Text (codes "$1") ∷ []) here indirect)
-    ≡ still (record {
-      table = (codes "a b", defs.Text (codes "$1") ∷ []) ∷ (codes "define", defs.Builtin Define ∷ [])
-          ∷ (codes "i", defs.Builtin Indir ∷ []) ∷ (codes "j", defs.Builtin IndirBuiltin ∷ []) ∷ [];
-      quotes = default_quotes;
-      comments = default_comments;
-      diversions = [];
-      current = pos 0;
-    })
-unfolding digits
-indir_of_define = refl
-
--- indir of an unknown name
-indir_of_an_unknown_name : seen (act (defs.Builtin Indir) [] (args.Text (codes "no") ∷ args.Text (codes "x") ∷ []) here indirect)
-    ≡ record (still indirect) { messages = codes "m4:a.m4:1: Warning: undefined macro `no'\n" }
-unfolding digits
-indir_of_an_unknown_name = refl
-
--- indir without arguments
-indir_without_arguments : seen (act (defs.Builtin Indir) [] ([]) here indirect)
-    ≡ record (still indirect) { messages = codes "m4:a.m4:1: Warning: too few arguments to builtin `indir'\n" }
-unfolding digits
-indir_without_arguments = refl
-
--- indir of the empty name
-indir_of_the_empty_name : seen (act (defs.Builtin Indir) [] (args.Text [] ∷ []) here indirect)
-    ≡ record (still indirect) { messages = codes "m4:a.m4:1: Warning: undefined macro `'\n" }
-unfolding digits
-indir_of_the_empty_name = refl
-
--- indir of define without arguments: the inner call lacks one
-indir_of_define_without_arguments_the_inner_call_lacks_one : seen (act (defs.Builtin Indir) [] (args.Text (codes "define") ∷ []) here indirect)
-    ≡ record (still indirect) { messages = codes "m4:a.m4:1: Warning: too few arguments to builtin `define'\n" }
-unfolding digits
-indir_of_define_without_arguments_the_inner_call_lacks_one = refl
-
--- indir of indir of builtin of indir of a text
-indir_of_indir_of_builtin_of_indir_of_a_text : seen
-    (act (defs.Builtin Indir) [] (args.Text (codes "i") ∷ args.Text (codes "j") ∷ args.Text (codes "indir")
-    ∷ args.Text (codes "a b") ∷ args.Text (codes "x") ∷ args.Text (codes "y") ∷ []) here indirect)
-    ≡ record (still indirect) { text = codes "<a b:x>" }
-unfolding digits
-indir_of_indir_of_builtin_of_indir_of_a_text = refl
-
--- indir of builtin without more
-indir_of_builtin_without_more : seen (act (defs.Builtin Indir) [] (args.Text (codes "j") ∷ []) here indirect)
-    ≡ record (still indirect) { messages = codes "m4:a.m4:1: Warning: too few arguments to builtin `builtin'\n" }
-unfolding digits
-indir_of_builtin_without_more = refl
-
--- indir of a placeholder
-indir_of_a_placeholder : seen (act (defs.Builtin Indir) [] (args.Text (codes "old") ∷ args.Text (codes "x") ∷ []) here named)
-    ≡ record (still named) { messages = codes "m4:a.m4:1: Warning: builtin `regexp' requested by frozen file is not supported\n" }
-unfolding digits
-indir_of_a_placeholder = refl
-
--- builtin by its own name, though no macro has it
-builtin_by_its_own_name_though_no_macro_has_it : seen
-    (act (defs.Builtin IndirBuiltin) [] (args.Text (codes "shift") ∷ args.Text (codes "p") ∷ args.Text (codes "q") ∷ [])
-    here bare)
-    ≡ record (still bare) { text = codes "`q'" }
-unfolding digits
-builtin_by_its_own_name_though_no_macro_has_it = refl
-
--- builtin of an unknown name
-builtin_of_an_unknown_name : seen (act (defs.Builtin IndirBuiltin) [] (args.Text (codes "shfit") ∷ args.Text (codes "p") ∷ []) here bare)
-    ≡ record (still bare) { messages = codes "m4:a.m4:1: Warning: undefined builtin `shfit'\n" }
-unfolding digits
-builtin_of_an_unknown_name = refl
-
--- builtin of a name that another m4 has
-builtin_of_a_name_that_another_m4_has : seen (act (defs.Builtin IndirBuiltin) [] (args.Text (codes "regexp") ∷ args.Text (codes "p") ∷ []) here bare)
-    ≡ record (still bare) { messages = codes "m4:a.m4:1: Warning: undefined builtin `regexp'\n" }
-unfolding digits
-builtin_of_a_name_that_another_m4_has = refl
-
--- builtin of a definition
-builtin_of_a_definition : seen (act (defs.Builtin IndirBuiltin) [] ((args.Definition (defs.Builtin Shift)) ∷ []) here bare)
-    ≡ record (still bare) { messages = codes "m4:a.m4:1: Warning: invalid macro name ignored in builtin `builtin'\n" }
-unfolding digits
-builtin_of_a_definition = refl
-
--- builtin without arguments
-builtin_without_arguments : seen (act (defs.Builtin IndirBuiltin) [] ([]) here bare)
-    ≡ record (still bare) { messages = codes "m4:a.m4:1: Warning: too few arguments to builtin `builtin'\n" }
-unfolding digits
-builtin_without_arguments = refl
-
--- builtin of define with one argument too many
-builtin_of_define_with_one_argument_too_many : seen
-    (act (defs.Builtin IndirBuiltin) []
-    (args.Text (codes "define") ∷ args.Text (codes "x") ∷ args.Text (codes "y") ∷ args.Text (codes "z") ∷ []) here bare)
-    ≡ record (still (record {
-      table = (codes "x", defs.Text (codes "y") ∷ []) ∷ [];
-      quotes = default_quotes;
-      comments = default_comments;
-      diversions = [];
-      current = pos 0;
-    })) { messages = codes "m4:a.m4:1: Warning: excess arguments to builtin `define' ignored\n" }
-unfolding digits
-builtin_of_define_with_one_argument_too_many = refl
+other_rows = refl
 
 -- a placeholder with arguments
-a_placeholder_with_arguments : seen (act (defs.Placeholder (codes "regexp")) [] (args.Text (codes "a") ∷ args.Text (codes "b") ∷ []) here bare)
-    ≡ record (still bare) { messages = codes "m4:a.m4:1: Warning: builtin `regexp' requested by frozen file is not supported\n" }
+a_placeholder_with_arguments :
+    seen (act (defs.Placeholder (codes "regexp")) [] (texts ("a" ∷ "b" ∷ [])) here bare)
+    ≡ answer bare "" ("builtin `regexp' requested by frozen file is not supported" ∷ [])
 unfolding digits
 a_placeholder_with_arguments = refl
 
--- ifdef of a name that has a definition
-ifdef_of_a_name_that_has_a_definition : seen
-    (act (defs.Builtin Ifdef) [] (args.Text (codes "a") ∷ args.Text (codes "y") ∷ args.Text (codes "n") ∷ []) here named)
-    ≡ record (still named) { text = codes "y" }
-unfolding digits
-ifdef_of_a_name_that_has_a_definition = refl
-
--- ifdef of one that has none
-ifdef_of_one_that_has_none : seen (act (defs.Builtin Ifdef) [] (args.Text (codes "z") ∷ args.Text (codes "y") ∷ args.Text (codes "n") ∷ []) here named)
-    ≡ record (still named) { text = codes "n" }
-unfolding digits
-ifdef_of_one_that_has_none = refl
-
--- ifdef without a third argument
-ifdef_without_a_third_argument : seen (act (defs.Builtin Ifdef) [] (args.Text (codes "z") ∷ args.Text (codes "y") ∷ []) here named)
-    ≡ still named
-unfolding digits
-ifdef_without_a_third_argument = refl
-
--- ifdef with one argument
-ifdef_with_one_argument : seen (act (defs.Builtin Ifdef) [] (args.Text (codes "a") ∷ []) here named)
-    ≡ record (still named) { messages = codes "m4:a.m4:1: Warning: too few arguments to builtin `ifdef'\n" }
-unfolding digits
-ifdef_with_one_argument = refl
-
--- ifdef with four
-ifdef_with_four : seen (act (defs.Builtin Ifdef) []
-    (args.Text (codes "a") ∷ args.Text (codes "y") ∷ args.Text (codes "n") ∷ args.Text (codes "m") ∷ []) here named)
-    ≡ record (still named) { text = codes "y"; messages = codes "m4:a.m4:1: Warning: excess arguments to builtin `ifdef' ignored\n" }
-unfolding digits
-ifdef_with_four = refl
-
--- ifelse with one argument
-ifelse_with_one_argument : seen (act (defs.Builtin Ifelse) [] (args.Text (codes "a") ∷ []) here bare)
-    ≡ still bare
-unfolding digits
-ifelse_with_one_argument = refl
-
--- ifelse with two
-ifelse_with_two : seen (act (defs.Builtin Ifelse) [] (args.Text (codes "a") ∷ args.Text (codes "b") ∷ []) here bare)
-    ≡ record (still bare) { messages = codes "m4:a.m4:1: Warning: too few arguments to builtin `ifelse'\n" }
-unfolding digits
-ifelse_with_two = refl
-
--- ifelse of equal texts
-ifelse_of_equal_texts : seen (act (defs.Builtin Ifelse) [] (args.Text (codes "a") ∷ args.Text (codes "a") ∷ args.Text (codes "y") ∷ []) here bare)
-    ≡ record (still bare) { text = codes "y" }
-unfolding digits
-ifelse_of_equal_texts = refl
-
--- ifelse of texts that differ
-ifelse_of_texts_that_differ : seen (act (defs.Builtin Ifelse) [] (args.Text (codes "a") ∷ args.Text (codes "b") ∷ args.Text (codes "y") ∷ []) here bare)
-    ≡ still bare
-unfolding digits
-ifelse_of_texts_that_differ = refl
-
--- ifelse with another result
-ifelse_with_another_result : seen (act (defs.Builtin Ifelse) []
-    (args.Text (codes "a") ∷ args.Text (codes "b") ∷ args.Text (codes "1") ∷ args.Text (codes "2") ∷ []) here bare)
-    ≡ record (still bare) { text = codes "2" }
-unfolding digits
-ifelse_with_another_result = refl
-
--- ifelse with one argument too many
-ifelse_with_one_argument_too_many : seen
-    (act (defs.Builtin Ifelse) []
-    (args.Text (codes "a") ∷ args.Text (codes "b") ∷ args.Text (codes "c") ∷ args.Text (codes "d")
-    ∷ args.Text (codes "e") ∷ []) here bare)
-    ≡ record (still bare) { text = codes "d"; messages = codes "m4:a.m4:1: Warning: excess arguments to builtin `ifelse' ignored\n" }
-unfolding digits
-ifelse_with_one_argument_too_many = refl
-
--- ifelse with one too many where the first pair is equal
-ifelse_with_one_too_many_where_the_first_pair_is_equal : seen
-    (act (defs.Builtin Ifelse) []
-    (args.Text (codes "a") ∷ args.Text (codes "a") ∷ args.Text (codes "c") ∷ args.Text (codes "d")
-    ∷ args.Text (codes "e") ∷ []) here bare)
-    ≡ record (still bare) { text = codes "c"; messages = codes "m4:a.m4:1: Warning: excess arguments to builtin `ifelse' ignored\n" }
-unfolding digits
-ifelse_with_one_too_many_where_the_first_pair_is_equal = refl
-
--- ifelse of two pairs
-ifelse_of_two_pairs : seen (act (defs.Builtin Ifelse) []
-    (args.Text (codes "a") ∷ args.Text (codes "b") ∷ args.Text (codes "1") ∷ args.Text (codes "c")
-    ∷ args.Text (codes "c") ∷ args.Text (codes "2") ∷ args.Text (codes "3") ∷ []) here bare)
-    ≡ record (still bare) { text = codes "2" }
-unfolding digits
-ifelse_of_two_pairs = refl
-
--- ifelse of two pairs that differ, without another result
-ifelse_of_two_pairs_that_differ_without_another_result : seen
-    (act (defs.Builtin Ifelse) []
-    (args.Text (codes "a") ∷ args.Text (codes "b") ∷ args.Text (codes "1") ∷ args.Text (codes "c")
-    ∷ args.Text (codes "d") ∷ args.Text (codes "2") ∷ []) here bare)
-    ≡ still bare
-unfolding digits
-ifelse_of_two_pairs_that_differ_without_another_result = refl
-
--- ifelse of eight
-ifelse_of_eight : seen (act (defs.Builtin Ifelse) []
-    (args.Text (codes "a") ∷ args.Text (codes "b") ∷ args.Text (codes "1") ∷ args.Text (codes "c")
-    ∷ args.Text (codes "d") ∷ args.Text (codes "2") ∷ args.Text (codes "3") ∷ args.Text (codes "4") ∷ []) here bare)
-    ≡ record (still bare) { text = codes "3"; messages = codes "m4:a.m4:1: Warning: excess arguments to builtin `ifelse' ignored\n" }
-unfolding digits
-ifelse_of_eight = refl
-
--- ifelse of ten
-ifelse_of_ten : seen (act (defs.Builtin Ifelse) []
-    (args.Text (codes "a") ∷ args.Text (codes "b") ∷ args.Text (codes "1") ∷ args.Text (codes "c")
-    ∷ args.Text (codes "d") ∷ args.Text (codes "2") ∷
-    args.Text (codes "e") ∷ args.Text (codes "e") ∷ args.Text (codes "3") ∷ args.Text (codes "4") ∷ []) here bare)
-    ≡ record (still bare) { text = codes "3" }
-unfolding digits
-ifelse_of_ten = refl
-
--- shift quotes each argument but the first
-shift_quotes_each_argument_but_the_first : seen
-    (act (defs.Builtin Shift) [] (args.Text (codes "a") ∷ args.Text (codes "b") ∷ args.Text [] ∷ args.Text (codes "c")
-    ∷ []) here bare)
-    ≡ record (still bare) { text = codes "`b',`',`c'" }
-unfolding digits
-shift_quotes_each_argument_but_the_first = refl
-
--- shift of one argument
-shift_of_one_argument : seen (act (defs.Builtin Shift) [] (args.Text (codes "a") ∷ []) here bare)
-    ≡ still bare
-unfolding digits
-shift_of_one_argument = refl
-
--- shift without arguments
-shift_without_arguments : seen (act (defs.Builtin Shift) [] ([]) here bare)
-    ≡ still bare
-unfolding digits
-shift_without_arguments = refl
-
--- a warning at a place
-a_warning_at_a_place : seen (act (defs.Builtin Indir) [] (args.Text (codes "q") ∷ []) below bare)
-    ≡ record (still bare) { messages = codes "m4:b.m4:12: Warning: undefined macro `q'\n" }
-unfolding digits
-a_warning_at_a_place = refl
-
--- indir hands definitions through
-indir_hands_definitions_through : seen (act (defs.Builtin Indir) []
-    (args.Text (codes "define") ∷ args.Text (codes "q") ∷ (args.Definition (defs.Builtin Len)) ∷ []) here indirect)
-    ≡ still (record {
-      table = (codes "a b", defs.Text (codes "<$0:$1>") ∷ []) ∷ (codes "define", defs.Builtin Define ∷ [])
-          ∷ (codes "i", defs.Builtin Indir ∷ []) ∷ (codes "j", defs.Builtin IndirBuiltin ∷ [])
-          ∷ (codes "q", defs.Builtin Len ∷ []) ∷ [];
-      quotes = default_quotes;
-      comments = default_comments;
-      diversions = [];
-      current = pos 0;
-    })
-unfolding digits
-indir_hands_definitions_through = refl
-
--- indir of a definition
-indir_of_a_definition : seen (act (defs.Builtin Indir) [] ((args.Definition (defs.Builtin Len)) ∷ args.Text (codes "x") ∷ []) here indirect)
-    ≡ record (still indirect) { messages = codes "m4:a.m4:1: Warning: invalid macro name ignored in builtin `indir'\n" }
-unfolding digits
-indir_of_a_definition = refl
-
--- ifelse takes a definition as an empty text
-ifelse_takes_a_definition_as_an_empty_text : seen
-    (act (defs.Builtin Ifelse) []
-    ((args.Definition (defs.Builtin Len)) ∷ args.Text [] ∷ args.Text (codes "y") ∷ args.Text (codes "n") ∷ []) here bare)
-    ≡ record (still bare) { text = codes "y" }
-unfolding digits
-ifelse_takes_a_definition_as_an_empty_text = refl
-
--- shift with other quotes, of a definition
-shift_with_other_quotes_of_a_definition : seen
-    (act (defs.Builtin Shift) [] (args.Text (codes "a") ∷ (args.Definition (defs.Builtin Len)) ∷ args.Text (codes "b")
-    ∷ []) here bracketed)
-    ≡ record (still bracketed) { text = codes "[],[b]" }
-unfolding digits
-shift_with_other_quotes_of_a_definition = refl
-
 -- a text with all arguments quoted
-a_text_with_all_arguments_quoted : seen
-    (act (defs.Text (codes "$@;$*;$#;$0")) (codes "f")
-    (args.Text (codes "a") ∷ (args.Definition (defs.Builtin Len)) ∷ args.Text (codes "b") ∷ []) here bracketed)
-    ≡ record (still bracketed) { text = codes "[a],[],[b];a,,b;3;f" }
+a_text_with_all_arguments_quoted :
+    seen (act (defs.Text (codes "$@;$*;$#;$0")) (codes "f") (text "a" ∷ token Len ∷ text "b" ∷ []) here bracketed)
+    ≡ answer bracketed "[a],[],[b];a,,b;3;f" []
 unfolding digits
 a_text_with_all_arguments_quoted = refl

@@ -1,359 +1,96 @@
 -- EvalRows: worked calls of `eval`: its radix, its width, and the order of its faults. What a row says is
 -- in `CallRows`; the rows on expressions alone are m4_eval's.
-use Rattle.std.proofs.Common.{◌≡◌, [], ◌∷◌, refl}
+use Prim.Native.String.{String}
+use Rattle.std.proofs.Common.{[], ◌∷◌, refl}
 use Rattle.std.specs.Prelude.{codes}
 use Rattle.std.specs.Int.{int_wrap}
 use Rattle.std.specs.Fmt.{digits}
 use Rattle.m4_state.specs.declared.builtin.Builtin.TheVariants.{Len, Eval}
-use Rattle.m4_state.specs.declared.definition.Def.TheVariants as defs
-use Rattle.m4_builtins.specs.declared.args.Arg.TheVariants as args
-use Rattle.m4_builtins.specs.Act.{act}
-use Rattle.m4_builtins.proofs.CallRows.{seen, still, here, wrapped, bare}
+use Rattle.m4_builtins.proofs.CallRows.{answer, Answers, Calls, row, texts, token, still, here, wrapped, bare}
 
--- signed in radix 6
-signed_in_radix_6 : seen (act (defs.Builtin Eval) [] (args.Text (codes "-666") ∷ args.Text (codes "6") ∷ args.Text (codes "10") ∷ []) here bare)
-    ≡ record (still bare) { text = codes "-0000003030" }
-unfolding digits int_wrap
-signed_in_radix_6 = refl
+-- the warnings that many rows have
+abbrev empty : String
+empty = "empty string treated as 0 in builtin `eval'"
 
--- product before sum
-product_before_sum : seen (act (defs.Builtin Eval) [] (args.Text (codes "2+3*4") ∷ []) here bare)
-    ≡ record (still bare) { text = codes "14" }
-unfolding digits int_wrap
-product_before_sum = refl
+abbrev no_number : String
+no_number = "non-numeric argument to builtin `eval'"
 
--- decided by the left
-decided_by_the_left : seen (act (defs.Builtin Eval) [] (args.Text (codes "1||1/0") ∷ []) here bare)
-    ≡ record (still bare) { text = codes "1" }
-unfolding digits int_wrap
-decided_by_the_left = refl
+abbrev out_of_range : String
+out_of_range = "radix or width out of range in eval"
 
--- quotient truncates
-quotient_truncates : seen (act (defs.Builtin Eval) [] (args.Text (codes "7/-2") ∷ []) here bare)
-    ≡ record (still bare) { text = codes "-3" }
-unfolding digits int_wrap
-quotient_truncates = refl
+abbrev bad : String
+bad = "bad expression in eval"
 
--- shift by 33
-shift_by_33 : seen (act (defs.Builtin Eval) [] (args.Text (codes "1<<33") ∷ []) here bare)
-    ≡ record (still bare) { text = codes "2" }
-unfolding digits int_wrap
-shift_by_33 = refl
+abbrev by_zero : String
+by_zero = "divide by zero in eval"
 
--- radix 16 width 4
-radix_16_width_4 : seen (act (defs.Builtin Eval) [] (args.Text (codes "255") ∷ args.Text (codes "16") ∷ args.Text (codes "4") ∷ []) here bare)
-    ≡ record (still bare) { text = codes "00ff" }
+-- Of texts.
+eval_rows : Answers Eval bare (
+    ("signed in radix 6", "-666" ∷ "6" ∷ "10" ∷ [], "-0000003030", [])
+    ∷ ("product before sum", "2+3*4" ∷ [], "14", [])
+    ∷ ("decided by the left", "1||1/0" ∷ [], "1", [])
+    ∷ ("quotient truncates", "7/-2" ∷ [], "-3", [])
+    ∷ ("shift by 33", "1<<33" ∷ [], "2", [])
+    ∷ ("radix 16 width 4", "255" ∷ "16" ∷ "4" ∷ [], "00ff", [])
+    ∷ ("zero divisor", "1/0" ∷ [], "", by_zero ∷ [])
+    ∷ ("nothing", "" ∷ [], "0", empty ∷ [])
+    ∷ ("radix 1", "1" ∷ "1" ∷ [], "", out_of_range ∷ [])
+    ∷ ("bad operand after or", "1||2+" ∷ [], "", bad ∷ [])
+    ∷ ("white space alone", " \t\n" ∷ [], "0", empty ∷ [])
+    ∷ ("radix of white space", "1" ∷ " " ∷ [], "", no_number ∷ [])
+    ∷ ("left of or divides", "1/0||1" ∷ [], "", by_zero ∷ [])
+    ∷ ("zero and bad form", "1/0+" ∷ [], "", bad ∷ [])
+    ∷ ("radix 2", "10" ∷ "2" ∷ [], "1010", [])
+    ∷ ("radix 36", "1295" ∷ "36" ∷ [], "zz", [])
+    ∷ ("least in radix 2", "-2147483648" ∷ "2" ∷ [], "-10000000000000000000000000000000", [])
+    ∷ ("least in radix 36", "-2147483648" ∷ "36" ∷ [], "-zik0zk", [])
+    ∷ ("radix 37", "1" ∷ "37" ∷ [], "", out_of_range ∷ [])
+    ∷ ("radix of zero", "1" ∷ "0" ∷ [], "", out_of_range ∷ [])
+    ∷ ("negative radix", "1" ∷ "-2" ∷ [], "", out_of_range ∷ [])
+    ∷ ("empty radix", "5" ∷ "" ∷ [], "5", [])
+    ∷ ("empty radix and width", "5" ∷ "" ∷ "" ∷ [], "5", empty ∷ [])
+    ∷ ("width 0", "5" ∷ "10" ∷ "0" ∷ [], "5", [])
+    ∷ ("width 1 of three", "123" ∷ "10" ∷ "1" ∷ [], "123", [])
+    ∷ ("negative width", "5" ∷ "10" ∷ "-1" ∷ [], "", out_of_range ∷ [])
+    ∷ ("empty width", "5" ∷ "10" ∷ "" ∷ [], "5", empty ∷ [])
+    ∷ ("width 40", "-1" ∷ "10" ∷ "40" ∷ [], "-0000000000000000000000000000000000000001", [])
+    ∷ ("width not counting the sign", "-5" ∷ "10" ∷ "3" ∷ [], "-005", [])
+    ∷ ("zero in a width", "0" ∷ "2" ∷ "3" ∷ [], "000", [])
+    ∷ ("zero in width 0", "0" ∷ "10" ∷ "0" ∷ [], "0", [])
+    ∷ ("radix not numeric", "1" ∷ "x" ∷ [], "", no_number ∷ [])
+    ∷ ("width not numeric", "1" ∷ "10" ∷ "x" ∷ [], "", no_number ∷ [])
+    ∷ ("radix with sign", "255" ∷ "+16" ∷ [], "ff", [])
+    ∷ ("radix after space", "255" ∷ " 16" ∷ [], "ff", [])
+    ∷ ("space after the radix", "255" ∷ "16 " ∷ [], "", no_number ∷ [])
+    ∷ ("radix past 32 bits", "1" ∷ "2147483648" ∷ [], "", no_number ∷ [])
+    ∷ ("width past 32 bits", "1" ∷ "10" ∷ "2147483648" ∷ [], "", no_number ∷ [])
+    ∷ ("radix hexadecimal", "1" ∷ "0x10" ∷ [], "", no_number ∷ [])
+    ∷ ("radix octal looking", "255" ∷ "016" ∷ [], "ff", [])
+    ∷ ("width after space", "7" ∷ "10" ∷ " \t2" ∷ [], "07", [])
+    ∷ ("width minus zero", "7" ∷ "10" ∷ "-0" ∷ [], "7", [])
+    ∷ ("radix with zeros before", "255" ∷ "0000000000016" ∷ [], "ff", [])
+    ∷ ("radix before expression", "1/0" ∷ "1" ∷ [], "", out_of_range ∷ [])
+    ∷ ("radix before width", "1" ∷ "x" ∷ "x" ∷ [], "", no_number ∷ [])
+    ∷ ("width before expression", "(" ∷ "10" ∷ "-1" ∷ [], "", out_of_range ∷ [])
+    ∷ ("empty width then bad", "(" ∷ "10" ∷ "" ∷ [], "", empty ∷ bad ∷ [])
+    ∷ ("empty width then divide", "1/0" ∷ "10" ∷ "" ∷ [], "", empty ∷ by_zero ∷ [])
+    ∷ ("both empty", "" ∷ "10" ∷ "" ∷ [], "0", empty ∷ empty ∷ [])
+    ∷ ("empty then radix", "" ∷ "1" ∷ [], "", out_of_range ∷ [])
+    ∷ ("empty then width", "" ∷ "10" ∷ "x" ∷ [], "", no_number ∷ [])
+    ∷ ("empty in a width", "" ∷ "16" ∷ "4" ∷ [], "0000", empty ∷ [])
+    ∷ ("radix then empty width", "1" ∷ "37" ∷ "" ∷ [], "", out_of_range ∷ [])
+    ∷ ("without arguments", [], "", "too few arguments to builtin `eval'" ∷ [])
+    ∷ ("with four", "1" ∷ "2" ∷ "3" ∷ "x" ∷ [], "001", "excess arguments to builtin `eval' ignored" ∷ [])
+    ∷ [])
 unfolding digits int_wrap
-radix_16_width_4 = refl
+eval_rows = refl
 
--- zero divisor
-zero_divisor : seen (act (defs.Builtin Eval) [] (args.Text (codes "1/0") ∷ []) here bare)
-    ≡ record (still bare) { messages = codes "m4:a.m4:1: Warning: divide by zero in eval\n" }
+-- Of a definition, and in wrapped text.
+other_eval_rows : Calls (
+    row "of a definition" Eval (token Len ∷ []) here bare
+    (answer bare "0" ("empty string treated as 0 in builtin `eval'" ∷ []))
+    ∷ row "in wrapped text" Eval (texts ("1/0" ∷ [])) wrapped bare
+    (record (still bare) { messages = codes "m4: Warning: divide by zero in eval\n" })
+    ∷ [])
 unfolding digits int_wrap
-zero_divisor = refl
-
--- nothing
-nothing : seen (act (defs.Builtin Eval) [] (args.Text [] ∷ []) here bare)
-    ≡ record (still bare) { text = codes "0"; messages = codes "m4:a.m4:1: Warning: empty string treated as 0 in builtin `eval'\n" }
-unfolding digits int_wrap
-nothing = refl
-
--- radix 1
-radix_1 : seen (act (defs.Builtin Eval) [] (args.Text (codes "1") ∷ args.Text (codes "1") ∷ []) here bare)
-    ≡ record (still bare) { messages = codes "m4:a.m4:1: Warning: radix or width out of range in eval\n" }
-unfolding digits int_wrap
-radix_1 = refl
-
--- bad operand after or
-bad_operand_after_or : seen (act (defs.Builtin Eval) [] (args.Text (codes "1||2+") ∷ []) here bare)
-    ≡ record (still bare) { messages = codes "m4:a.m4:1: Warning: bad expression in eval\n" }
-unfolding digits int_wrap
-bad_operand_after_or = refl
-
--- white space alone
-white_space_alone : seen (act (defs.Builtin Eval) [] (args.Text (codes " \t\n") ∷ []) here bare)
-    ≡ record (still bare) { text = codes "0"; messages = codes "m4:a.m4:1: Warning: empty string treated as 0 in builtin `eval'\n" }
-unfolding digits int_wrap
-white_space_alone = refl
-
--- radix of white space
-radix_of_white_space : seen (act (defs.Builtin Eval) [] (args.Text (codes "1") ∷ args.Text (codes " ") ∷ []) here bare)
-    ≡ record (still bare) { messages = codes "m4:a.m4:1: Warning: non-numeric argument to builtin `eval'\n" }
-unfolding digits int_wrap
-radix_of_white_space = refl
-
--- left of or divides
-left_of_or_divides : seen (act (defs.Builtin Eval) [] (args.Text (codes "1/0||1") ∷ []) here bare)
-    ≡ record (still bare) { messages = codes "m4:a.m4:1: Warning: divide by zero in eval\n" }
-unfolding digits int_wrap
-left_of_or_divides = refl
-
--- zero and bad form
-zero_and_bad_form : seen (act (defs.Builtin Eval) [] (args.Text (codes "1/0+") ∷ []) here bare)
-    ≡ record (still bare) { messages = codes "m4:a.m4:1: Warning: bad expression in eval\n" }
-unfolding digits int_wrap
-zero_and_bad_form = refl
-
--- radix 2
-radix_2 : seen (act (defs.Builtin Eval) [] (args.Text (codes "10") ∷ args.Text (codes "2") ∷ []) here bare)
-    ≡ record (still bare) { text = codes "1010" }
-unfolding digits int_wrap
-radix_2 = refl
-
--- radix 36
-radix_36 : seen (act (defs.Builtin Eval) [] (args.Text (codes "1295") ∷ args.Text (codes "36") ∷ []) here bare)
-    ≡ record (still bare) { text = codes "zz" }
-unfolding digits int_wrap
-radix_36 = refl
-
--- least in radix 2
-least_in_radix_2 : seen (act (defs.Builtin Eval) [] (args.Text (codes "-2147483648") ∷ args.Text (codes "2") ∷ []) here bare)
-    ≡ record (still bare) { text = codes "-10000000000000000000000000000000" }
-unfolding digits int_wrap
-least_in_radix_2 = refl
-
--- least in radix 36
-least_in_radix_36 : seen (act (defs.Builtin Eval) [] (args.Text (codes "-2147483648") ∷ args.Text (codes "36") ∷ []) here bare)
-    ≡ record (still bare) { text = codes "-zik0zk" }
-unfolding digits int_wrap
-least_in_radix_36 = refl
-
--- radix 37
-radix_37 : seen (act (defs.Builtin Eval) [] (args.Text (codes "1") ∷ args.Text (codes "37") ∷ []) here bare)
-    ≡ record (still bare) { messages = codes "m4:a.m4:1: Warning: radix or width out of range in eval\n" }
-unfolding digits int_wrap
-radix_37 = refl
-
--- radix of zero
-radix_of_zero : seen (act (defs.Builtin Eval) [] (args.Text (codes "1") ∷ args.Text (codes "0") ∷ []) here bare)
-    ≡ record (still bare) { messages = codes "m4:a.m4:1: Warning: radix or width out of range in eval\n" }
-unfolding digits int_wrap
-radix_of_zero = refl
-
--- negative radix
-negative_radix : seen (act (defs.Builtin Eval) [] (args.Text (codes "1") ∷ args.Text (codes "-2") ∷ []) here bare)
-    ≡ record (still bare) { messages = codes "m4:a.m4:1: Warning: radix or width out of range in eval\n" }
-unfolding digits int_wrap
-negative_radix = refl
-
--- empty radix
-empty_radix : seen (act (defs.Builtin Eval) [] (args.Text (codes "5") ∷ args.Text [] ∷ []) here bare)
-    ≡ record (still bare) { text = codes "5" }
-unfolding digits int_wrap
-empty_radix = refl
-
--- empty radix and width
-empty_radix_and_width : seen (act (defs.Builtin Eval) [] (args.Text (codes "5") ∷ args.Text [] ∷ args.Text [] ∷ []) here bare)
-    ≡ record (still bare) { text = codes "5"; messages = codes "m4:a.m4:1: Warning: empty string treated as 0 in builtin `eval'\n" }
-unfolding digits int_wrap
-empty_radix_and_width = refl
-
--- width 0
-width_0 : seen (act (defs.Builtin Eval) [] (args.Text (codes "5") ∷ args.Text (codes "10") ∷ args.Text (codes "0") ∷ []) here bare)
-    ≡ record (still bare) { text = codes "5" }
-unfolding digits int_wrap
-width_0 = refl
-
--- width 1 of three
-width_1_of_three : seen (act (defs.Builtin Eval) [] (args.Text (codes "123") ∷ args.Text (codes "10") ∷ args.Text (codes "1") ∷ []) here bare)
-    ≡ record (still bare) { text = codes "123" }
-unfolding digits int_wrap
-width_1_of_three = refl
-
--- negative width
-negative_width : seen (act (defs.Builtin Eval) [] (args.Text (codes "5") ∷ args.Text (codes "10") ∷ args.Text (codes "-1") ∷ []) here bare)
-    ≡ record (still bare) { messages = codes "m4:a.m4:1: Warning: radix or width out of range in eval\n" }
-unfolding digits int_wrap
-negative_width = refl
-
--- empty width
-empty_width : seen (act (defs.Builtin Eval) [] (args.Text (codes "5") ∷ args.Text (codes "10") ∷ args.Text [] ∷ []) here bare)
-    ≡ record (still bare) { text = codes "5"; messages = codes "m4:a.m4:1: Warning: empty string treated as 0 in builtin `eval'\n" }
-unfolding digits int_wrap
-empty_width = refl
-
--- width 40
-width_40 : seen (act (defs.Builtin Eval) [] (args.Text (codes "-1") ∷ args.Text (codes "10") ∷ args.Text (codes "40") ∷ []) here bare)
-    ≡ record (still bare) { text = codes "-0000000000000000000000000000000000000001" }
-unfolding digits int_wrap
-width_40 = refl
-
--- width not counting the sign
-width_not_counting_the_sign : seen (act (defs.Builtin Eval) [] (args.Text (codes "-5") ∷ args.Text (codes "10") ∷ args.Text (codes "3") ∷ []) here bare)
-    ≡ record (still bare) { text = codes "-005" }
-unfolding digits int_wrap
-width_not_counting_the_sign = refl
-
--- zero in a width
-zero_in_a_width : seen (act (defs.Builtin Eval) [] (args.Text (codes "0") ∷ args.Text (codes "2") ∷ args.Text (codes "3") ∷ []) here bare)
-    ≡ record (still bare) { text = codes "000" }
-unfolding digits int_wrap
-zero_in_a_width = refl
-
--- zero in width 0
-zero_in_width_0 : seen (act (defs.Builtin Eval) [] (args.Text (codes "0") ∷ args.Text (codes "10") ∷ args.Text (codes "0") ∷ []) here bare)
-    ≡ record (still bare) { text = codes "0" }
-unfolding digits int_wrap
-zero_in_width_0 = refl
-
--- radix not numeric
-radix_not_numeric : seen (act (defs.Builtin Eval) [] (args.Text (codes "1") ∷ args.Text (codes "x") ∷ []) here bare)
-    ≡ record (still bare) { messages = codes "m4:a.m4:1: Warning: non-numeric argument to builtin `eval'\n" }
-unfolding digits int_wrap
-radix_not_numeric = refl
-
--- width not numeric
-width_not_numeric : seen (act (defs.Builtin Eval) [] (args.Text (codes "1") ∷ args.Text (codes "10") ∷ args.Text (codes "x") ∷ []) here bare)
-    ≡ record (still bare) { messages = codes "m4:a.m4:1: Warning: non-numeric argument to builtin `eval'\n" }
-unfolding digits int_wrap
-width_not_numeric = refl
-
--- radix with sign
-radix_with_sign : seen (act (defs.Builtin Eval) [] (args.Text (codes "255") ∷ args.Text (codes "+16") ∷ []) here bare)
-    ≡ record (still bare) { text = codes "ff" }
-unfolding digits int_wrap
-radix_with_sign = refl
-
--- radix after space
-radix_after_space : seen (act (defs.Builtin Eval) [] (args.Text (codes "255") ∷ args.Text (codes " 16") ∷ []) here bare)
-    ≡ record (still bare) { text = codes "ff" }
-unfolding digits int_wrap
-radix_after_space = refl
-
--- space after the radix
-space_after_the_radix : seen (act (defs.Builtin Eval) [] (args.Text (codes "255") ∷ args.Text (codes "16 ") ∷ []) here bare)
-    ≡ record (still bare) { messages = codes "m4:a.m4:1: Warning: non-numeric argument to builtin `eval'\n" }
-unfolding digits int_wrap
-space_after_the_radix = refl
-
--- radix past 32 bits
-radix_past_32_bits : seen (act (defs.Builtin Eval) [] (args.Text (codes "1") ∷ args.Text (codes "2147483648") ∷ []) here bare)
-    ≡ record (still bare) { messages = codes "m4:a.m4:1: Warning: non-numeric argument to builtin `eval'\n" }
-unfolding digits int_wrap
-radix_past_32_bits = refl
-
--- width past 32 bits
-width_past_32_bits : seen (act (defs.Builtin Eval) [] (args.Text (codes "1") ∷ args.Text (codes "10") ∷ args.Text (codes "2147483648") ∷ []) here bare)
-    ≡ record (still bare) { messages = codes "m4:a.m4:1: Warning: non-numeric argument to builtin `eval'\n" }
-unfolding digits int_wrap
-width_past_32_bits = refl
-
--- radix hexadecimal
-radix_hexadecimal : seen (act (defs.Builtin Eval) [] (args.Text (codes "1") ∷ args.Text (codes "0x10") ∷ []) here bare)
-    ≡ record (still bare) { messages = codes "m4:a.m4:1: Warning: non-numeric argument to builtin `eval'\n" }
-unfolding digits int_wrap
-radix_hexadecimal = refl
-
--- radix octal looking
-radix_octal_looking : seen (act (defs.Builtin Eval) [] (args.Text (codes "255") ∷ args.Text (codes "016") ∷ []) here bare)
-    ≡ record (still bare) { text = codes "ff" }
-unfolding digits int_wrap
-radix_octal_looking = refl
-
--- width after space
-width_after_space : seen (act (defs.Builtin Eval) [] (args.Text (codes "7") ∷ args.Text (codes "10") ∷ args.Text (codes " \t2") ∷ []) here bare)
-    ≡ record (still bare) { text = codes "07" }
-unfolding digits int_wrap
-width_after_space = refl
-
--- width minus zero
-width_minus_zero : seen (act (defs.Builtin Eval) [] (args.Text (codes "7") ∷ args.Text (codes "10") ∷ args.Text (codes "-0") ∷ []) here bare)
-    ≡ record (still bare) { text = codes "7" }
-unfolding digits int_wrap
-width_minus_zero = refl
-
--- radix with zeros before
-radix_with_zeros_before : seen (act (defs.Builtin Eval) [] (args.Text (codes "255") ∷ args.Text (codes "0000000000016") ∷ []) here bare)
-    ≡ record (still bare) { text = codes "ff" }
-unfolding digits int_wrap
-radix_with_zeros_before = refl
-
--- radix before expression
-radix_before_expression : seen (act (defs.Builtin Eval) [] (args.Text (codes "1/0") ∷ args.Text (codes "1") ∷ []) here bare)
-    ≡ record (still bare) { messages = codes "m4:a.m4:1: Warning: radix or width out of range in eval\n" }
-unfolding digits int_wrap
-radix_before_expression = refl
-
--- radix before width
-radix_before_width : seen (act (defs.Builtin Eval) [] (args.Text (codes "1") ∷ args.Text (codes "x") ∷ args.Text (codes "x") ∷ []) here bare)
-    ≡ record (still bare) { messages = codes "m4:a.m4:1: Warning: non-numeric argument to builtin `eval'\n" }
-unfolding digits int_wrap
-radix_before_width = refl
-
--- width before expression
-width_before_expression : seen (act (defs.Builtin Eval) [] (args.Text (codes "(") ∷ args.Text (codes "10") ∷ args.Text (codes "-1") ∷ []) here bare)
-    ≡ record (still bare) { messages = codes "m4:a.m4:1: Warning: radix or width out of range in eval\n" }
-unfolding digits int_wrap
-width_before_expression = refl
-
--- empty width then bad
-empty_width_then_bad : seen (act (defs.Builtin Eval) [] (args.Text (codes "(") ∷ args.Text (codes "10") ∷ args.Text [] ∷ []) here bare)
-    ≡ record (still bare) { messages = codes "m4:a.m4:1: Warning: empty string treated as 0 in builtin `eval'\nm4:a.m4:1: Warning: bad expression in eval\n" }
-unfolding digits int_wrap
-empty_width_then_bad = refl
-
--- empty width then divide
-empty_width_then_divide : seen (act (defs.Builtin Eval) [] (args.Text (codes "1/0") ∷ args.Text (codes "10") ∷ args.Text [] ∷ []) here bare)
-    ≡ record (still bare) { messages = codes "m4:a.m4:1: Warning: empty string treated as 0 in builtin `eval'\nm4:a.m4:1: Warning: divide by zero in eval\n" }
-unfolding digits int_wrap
-empty_width_then_divide = refl
-
--- both empty
-both_empty : seen (act (defs.Builtin Eval) [] (args.Text [] ∷ args.Text (codes "10") ∷ args.Text [] ∷ []) here bare)
-    ≡ record (still bare) {
-      text = codes "0";
-      messages =
-          codes
-          "m4:a.m4:1: Warning: empty string treated as 0 in builtin `eval'\nm4:a.m4:1: Warning: empty string treated as 0 in builtin `eval'\n";
-    }
-unfolding digits int_wrap
-both_empty = refl
-
--- empty then radix
-empty_then_radix : seen (act (defs.Builtin Eval) [] (args.Text [] ∷ args.Text (codes "1") ∷ []) here bare)
-    ≡ record (still bare) { messages = codes "m4:a.m4:1: Warning: radix or width out of range in eval\n" }
-unfolding digits int_wrap
-empty_then_radix = refl
-
--- empty then width
-empty_then_width : seen (act (defs.Builtin Eval) [] (args.Text [] ∷ args.Text (codes "10") ∷ args.Text (codes "x") ∷ []) here bare)
-    ≡ record (still bare) { messages = codes "m4:a.m4:1: Warning: non-numeric argument to builtin `eval'\n" }
-unfolding digits int_wrap
-empty_then_width = refl
-
--- empty in a width
-empty_in_a_width : seen (act (defs.Builtin Eval) [] (args.Text [] ∷ args.Text (codes "16") ∷ args.Text (codes "4") ∷ []) here bare)
-    ≡ record (still bare) { text = codes "0000"; messages = codes "m4:a.m4:1: Warning: empty string treated as 0 in builtin `eval'\n" }
-unfolding digits int_wrap
-empty_in_a_width = refl
-
--- radix then empty width
-radix_then_empty_width : seen (act (defs.Builtin Eval) [] (args.Text (codes "1") ∷ args.Text (codes "37") ∷ args.Text [] ∷ []) here bare)
-    ≡ record (still bare) { messages = codes "m4:a.m4:1: Warning: radix or width out of range in eval\n" }
-unfolding digits int_wrap
-radix_then_empty_width = refl
-
--- without arguments
-eval_without_arguments : seen (act (defs.Builtin Eval) [] ([]) here bare)
-    ≡ record (still bare) { messages = codes "m4:a.m4:1: Warning: too few arguments to builtin `eval'\n" }
-unfolding digits int_wrap
-eval_without_arguments = refl
-
--- with four
-eval_with_four : seen (act (defs.Builtin Eval) []
-    (args.Text (codes "1") ∷ args.Text (codes "2") ∷ args.Text (codes "3") ∷ args.Text (codes "x") ∷ []) here bare)
-    ≡ record (still bare) { text = codes "001"; messages = codes "m4:a.m4:1: Warning: excess arguments to builtin `eval' ignored\n" }
-unfolding digits int_wrap
-eval_with_four = refl
-
--- of a definition
-eval_of_a_definition : seen (act (defs.Builtin Eval) [] ((args.Definition (defs.Builtin Len)) ∷ []) here bare)
-    ≡ record (still bare) { text = codes "0"; messages = codes "m4:a.m4:1: Warning: empty string treated as 0 in builtin `eval'\n" }
-unfolding digits int_wrap
-eval_of_a_definition = refl
-
--- in wrapped text
-eval_in_wrapped_text : seen (act (defs.Builtin Eval) [] (args.Text (codes "1/0") ∷ []) wrapped bare)
-    ≡ record (still bare) { messages = codes "m4: Warning: divide by zero in eval\n" }
-unfolding digits int_wrap
-eval_in_wrapped_text = refl
+other_eval_rows = refl
