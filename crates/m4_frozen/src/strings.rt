@@ -54,8 +54,9 @@ pub(crate) fn pair_head(bytes: &[u8]) -> Result<((&[u8], u64), &[u8]), Refusal>
 /// the bytes after them.
 #[tactic(auto, unfolding(crate::specs::ReaderSteps::string_at))]
 pub(crate) fn joined_pair(bytes: &[u8]) -> Result<((&[u8], usize), &[u8]), Refusal>
-    ensures gives { Gives (λ x. ((take x.0.1 x.0.0.now, drop x.0.1 x.0.0.now), x.1.now)) result
-        (steps.layout_at {A = List ℕ × List ℕ} (layouts.pair_layout (λ first second. (first, second))) bytes.now) }
+    ensures gives { (make : List ℕ → List ℕ → directives.Directive)
+        → Gives (λ x. (make (take x.0.1 x.0.0.now) (drop x.0.1 x.0.0.now), x.1.now)) result
+        (steps.layout_at (layouts.pair_layout make) bytes.now) }
     ensures within { IfOk result (λ x. x.0.1 ≤ length x.0.0.now) }
 {
     let (n, rest) = length(bytes)?;
@@ -71,8 +72,9 @@ pub(crate) fn joined_pair(bytes: &[u8]) -> Result<((&[u8], usize), &[u8]), Refus
 
 /// Reads two lengths and both strings; returns the strings and the bytes after them.
 pub(crate) fn pair(bytes: &[u8]) -> Result<((&[u8], &[u8]), &[u8]), Refusal>
-    ensures { Gives (λ x. ((x.0.0.now, x.0.1.now), x.1.now)) result
-        (steps.layout_at {A = List ℕ × List ℕ} (layouts.pair_layout (λ first second. (first, second))) bytes.now) }
+    ensures { (make : List ℕ → List ℕ → directives.Directive)
+        → Gives (λ x. (make x.0.0.now x.0.1.now, x.1.now)) result
+        (steps.layout_at (layouts.pair_layout make) bytes.now) }
 {
     let ((both, middle), rest) = joined_pair(bytes)?;
     Ok((both.split_at(middle), rest))
