@@ -1,6 +1,7 @@
 -- Stack: the open calls are the first ones of a stack, the innermost last.
 use Rattle.std.proofs.Common.{◌≡◌, ℕ, zero, suc, ◌<◌, ◌≤◌, ◌+◌, ◌-◌, List, [], ◌∷◌, length, take, sym, ap, ◌∙◌, subst, arith}
 use Rattle.std.specs.Prelude.{reverse, slice_set, slice_index_or}
+use Rattle.std.proofs.lemmas.Grind.{common_steps}
 use Rattle.std.proofs.lemmas.List.{take_more, take-set, reverse-append}
 use Rattle.m4_engine.specs.Expansion.{Call}
 use Rattle.m4_engine.specs.MachineView.{open_of}
@@ -28,3 +29,10 @@ innermost_is xs n c z l h =
     subst (λ (m : ℕ). open_of m xs ≡ c ∷ open_of (n - 1) xs) e
     (ap reverse (take_more xs (n - 1) c (omega (arith, z, l))) ∙ reverse-append (take (n - 1) xs) (slice_index_or xs (n - 1) c ∷ [])
     ∙ ap (λ (d : Call). d ∷ open_of (n - 1) xs) (sym h))
+
+-- the innermost is written
+pub innermost_set : (xs : List Call) (n : ℕ) (c : Call) → 0 < n → n ≤ length xs
+    → open_of n (slice_set xs (n - 1) c) ≡ c ∷ open_of (n - 1) xs
+innermost_set xs n c z l =
+    innermost_is (slice_set xs (n - 1) c) n c z (grind (arith, common_steps)) (grind (arith, common_steps))
+    ∙ ap (λ (cs : List Call). c ∷ cs) (above_set xs (n - 1) c)
