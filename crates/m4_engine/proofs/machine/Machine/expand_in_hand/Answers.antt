@@ -1,4 +1,4 @@
-use Rattle.std.proofs.Common.{◌≡◌, ◌<◌, ◌≤◌, ℕ, List, [], true, false, length, rules, arith, refl, ap, ◌∙◌}
+use Rattle.std.proofs.Common.{◌≡◌, ◌<◌, ◌≤◌, ℕ, List, [], true, false, length, rules, arith, refl, sym, subst, inl, ap, ◌∙◌}
 use Rattle.std.proofs.lemmas.List.{nil_from_length}
 use Rattle.m4_engine.proofs.OnlyGrows.{output_stays}
 use Rattle.m4_engine.proofs.Running.{begins_so, begins_past, passed, went_on, went_past_line, fell}
@@ -8,7 +8,13 @@ use Rattle.m4_engine.proofs.Running.{write_breaks_in_order, in_order_end, needs_
 use Rattle.m4_engine.proofs.Running.{breaks, lack_breaks_in_order, filled, filled_on}
 use Rattle.m4_engine.proofs.Running.{line_done_by, hand_ends, lack_gives, lack_gives_in_order, lack_counted}
 use Rattle.m4_engine.proofs.Passing.{passes_messages, to_none, to_some}
+use Rattle.m4_state.specs.Device.{one_more}
+use Rattle.m4_engine.specs.declared.ending.Cause.{Cause}
+use Rattle.m4_engine.specs.declared.turned.TurnEnd.{TurnEnd}
+use Rattle.m4_engine.specs.declared.turned.TurnEnd.TheVariants as turn_ends
 use Rattle.m4_engine.specs.Engine.{Engine}
+use Rattle.m4_engine.specs.Turns.{cause_of_end}
+use Rattle.m4_engine.specs.Writers.{Failures, FailsBy, NoneFailed, both}
 use Rattle.m4_engine.proofs.machine.Machine.expand_in_hand.Goals.{in_default-via-in-Token-1, in_default-via-in-Line+else-not-skip_in_hand}
 use Rattle.m4_engine.proofs.machine.Machine.expand_in_hand.Goals as goal
 
@@ -315,3 +321,34 @@ pub returns-in_default-turn-clause-counted : goal.returns-in_default-turn-clause
 returns-in_default-turn-clause-counted g c = lack_counted _ _ _ c.give_out-in_default-turn.result _ _ _ _ _
     c.give_out-in_default-turn.ensures.gives c.give_out-in_default-turn.ensures.counted c.turns.invariant.out
     c.turns.invariant.reported
+
+-- no writer failed
+pub returns-in-NeedsMore-clause-counted : goal.returns-in-NeedsMore-clause-counted
+returns-in-NeedsMore-clause-counted g c = (c.in_default-flush.ensures.counted.0 ∙ c.turns.invariant.out,
+    c.in_default-flush.ensures.counted.1 ∙ c.turns.invariant.reported)
+
+pub returns-then-not-skip_in_hand-2-clause-counted : goal.returns-then-not-skip_in_hand-2-clause-counted
+returns-then-not-skip_in_hand-2-clause-counted g c = (c.in_default-flush.ensures.counted.0 ∙ c.turns.invariant.out,
+    c.in_default-flush.ensures.counted.1 ∙ c.turns.invariant.reported)
+
+-- no turn ends a run by a write fault
+none_fails : (end : TurnEnd) (f : Failures) → NoneFailed f → FailsBy (cause_of_end end) f
+none_fails turn_ends.Done f h = h
+none_fails end f h = h
+
+pub returns-in-Ends-clause-counted : goal.returns-in-Ends-clause-counted
+returns-in-Ends-clause-counted g c =
+    let f : Failures = both g.O.ByteSink.failures g.M.ByteSink.failures c.args.out.now c.flush.new.out
+    c.args.messages.now c.flush.new.messages in
+    subst (λ (x : Cause). FailsBy x f) (sym c.cause.ensures)
+    (none_fails c.in-Ends.end f (c.in_default-flush.ensures.counted.0 ∙ c.turns.invariant.out,
+    c.in_default-flush.ensures.counted.1 ∙ c.turns.invariant.reported))
+
+-- one did
+pub returns-in-Err-flush-clause-counted : goal.returns-in-Err-flush-clause-counted
+returns-in-Err-flush-clause-counted g c =
+    rw c.turns.invariant.out at (rw c.turns.invariant.reported at c.in-Err-flush.ensures.counted)
+
+pub returns-in-Err-clause-counted : goal.returns-in-Err-clause-counted
+returns-in-Err-clause-counted g c =
+    inl (c.in-Err.ensures.counted ∙ ap one_more c.turns.invariant.out, c.turns.invariant.reported)
