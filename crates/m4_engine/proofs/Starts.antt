@@ -28,12 +28,12 @@ use Rattle.m4_engine.specs.Run.{run_from}
 use Rattle.m4_engine.specs.Session.{SessionState, progress_of, session_from, fresh_session, AreReloaded, ReloadGives}
 use Rattle.m4_engine.specs.Session.{IsOpen, EndGives}
 use Rattle.m4_engine.specs.RunSteps.{BeginGives, IsBegun, BeginFails}
-use Rattle.m4_engine.specs.SessionFailures.{ReloadFails, ByAnswer, MessageWriteFails}
+use Rattle.m4_engine.specs.SessionFailures.{ReloadFails, ByAnswer, MessageWriteFails, ThreeFail}
 use Rattle.m4_engine.specs.RunSources.{AllPairs, is_sound, ReadersFailBy, DescribesFrozen, frozen_fails}
 use Rattle.m4_engine.specs.RunSources.{FrozenFailsBy, IsUnrefused}
 use Rattle.m4_engine.specs.WholeRun.{WroteAll, WrotePrefix, GivesBy, RefusedBy, HasFrozen, FrozenBegan, FrozenBy}
 use Rattle.m4_engine.specs.WholeRun.{FrozenLast, RunGives, NothingIsDone}
-use Rattle.m4_engine.specs.Writers.{Contents, Three, writers, ByCause, NoneOfThree, OneOfThree, IsSpared, Spares}
+use Rattle.m4_engine.specs.Writers.{Contents, Three, writers, ByCause, NoneOfThree, OneOfThree, IsSpared, ThreeFailBy, Spares}
 use Rattle.m4_engine.proofs.Begins.{nothing_begun, begun_after}
 use Rattle.m4_engine.proofs.OnePass.{over_sources, over_wraps}
 use Rattle.m4_engine.proofs.GoingOn.{after, sources_after, wraps_after}
@@ -444,6 +444,17 @@ by_answer : (n : ℕ) (r : Result Bool Stop) (none one : Type 0) → ByAnswer r 
 by_answer n (Ok wrapped) none one h = h
 by_answer n (Err stops.Finished) none one h = h
 by_answer n (Err (stops.Ended cause)) none one h = h
+
+-- the writers of a run that began: its start failed none
+pub begun_wrote : (s : SessionState) (st : Result SessionState Stop) (n : ℕ) (r : Result Bool Stop) (d : Ending)
+    (old mid new reported reported' frozen frozen' : ℕ) (w : Three (Option (List ℕ))) → st ≡ Ok s
+    → d ≡ ending_by n r → MessageWriteFails st old mid
+    → ThreeFail r (record { two = writers mid new reported reported'; frozen_old = frozen; frozen_new = frozen' }) w
+    → ThreeFailBy d.cause (record { two = writers old new reported reported'; frozen_old = frozen; frozen_new = frozen' }) w
+begun_wrote s st n r d old mid new reported reported' frozen frozen' w i j m h =
+    let f : ℕ → Three ℕ = λ x. record { two = writers x new reported reported'; frozen_old = frozen; frozen_new = frozen' } in
+    subst (λ (y : Ending). ThreeFailBy y.cause (f old) w) (sym j)
+    (by_answer n r _ _ (subst (λ (x : ℕ). ThreeFail r (f x) w) (subst (λ (y : Result SessionState Stop). MessageWriteFails y old mid) i m) h))
 
 pub spared_answer : (cause : Cause) (two two' : Contents) (frozen frozen' : Option (List ℕ))
     → Spares cause (record { two = two; frozen_old = frozen; frozen_new = frozen' })

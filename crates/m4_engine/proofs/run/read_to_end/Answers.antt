@@ -13,6 +13,10 @@ use Rattle.m4_engine.proofs.run.read_to_end.Goals.{then-freezes, else-freezes}
 use Rattle.m4_engine.proofs.run.read_to_end.Goals as goal
 use Rattle.m4_engine.specs.SessionSteps.{ending_by}
 
+-- a fact that is used more than once
+given : (A : Type 0) {B : Type 0} → A → (A → B) → B
+given A a f = f a
+
 pub returns-in_err-read_sources-clause-writes : goal.returns-in_err-read_sources-clause-writes
 returns-in_err-read_sources-clause-writes g c = λ ss s. record {
   gives = early_so c.args.freezes ss (after_sources c.args.session.now.limits ss (progress_of c.args.session.now))
@@ -55,20 +59,20 @@ returns-in_err-read_sources-clause-marks g c = record {
 -- the end of the run is broken off
 pub returns-in_err-closed : goal.returns-in_err-closed
 returns-in_err-closed g c =
-    let k : Closes g.O.ByteSink.contents g.M.ByteSink.contents g.Z.ByteSink.contents g.O.ByteSink.failures g.M.ByteSink.failures g.Z.ByteSink.failures
+    given (Closes g.O.ByteSink.contents g.M.ByteSink.contents g.Z.ByteSink.contents g.O.ByteSink.failures g.M.ByteSink.failures g.Z.ByteSink.failures
     c.args.freezes c.read_sources.new.session c.read_sources.new.out c.read_sources.new.messages c.args.freeze_to.now
-    c.if-freezes.session c.if-freezes.out c.if-freezes.messages c.if-freezes.freeze_to c.if-freezes.closed = elim c.if-freezes.branch [
+    c.if-freezes.session c.if-freezes.out c.if-freezes.messages c.if-freezes.freeze_to c.if-freezes.closed) (elim c.if-freezes.branch [
       | then-freezes w ↦ closes_so
           g.O.ByteSink.contents g.M.ByteSink.contents g.Z.ByteSink.contents g.O.ByteSink.failures g.M.ByteSink.failures g.Z.ByteSink.failures
           c.args.freezes c.read_sources.new.session c.read_sources.new.out c.read_sources.new.messages c.args.freeze_to.now
           w.freeze-closed.new.self c.if-freezes.session w.freeze-closed.new.out c.if-freezes.out
           w.freeze-closed.new.messages c.if-freezes.messages w.freeze-closed.new.freeze_to c.if-freezes.freeze_to
           w.freeze-closed.result c.if-freezes.closed
-          (search rules) (search rules) (search rules) (search rules) (search rules)
+          w.session-is w.out-is w.messages-is w.freeze_to-is w.closed-is
           (freeze_closes
           g.O.ByteSink.contents g.M.ByteSink.contents g.Z.ByteSink.contents g.O.ByteSink.failures g.M.ByteSink.failures g.Z.ByteSink.failures
           c.args.freezes c.read_sources.new.session c.read_sources.new.out c.read_sources.new.messages c.args.freeze_to.now
-          w.freeze-closed.new.self w.freeze-closed.new.out w.freeze-closed.new.messages w.freeze-closed.new.freeze_to w.freeze-closed.result (search rules)
+          w.freeze-closed.new.self w.freeze-closed.new.out w.freeze-closed.new.messages w.freeze-closed.new.freeze_to w.freeze-closed.result w.if-freezes.true
           w.freeze-closed.ensures.gives w.freeze-closed.ensures.order w.freeze-closed.ensures.any_missing
           w.freeze-closed.ensures.write w.freeze-closed.ensures.last)
       | else-freezes w ↦ closes_so
@@ -77,24 +81,23 @@ returns-in_err-closed g c =
           w.finish-closed.new.self c.if-freezes.session w.finish-closed.new.out c.if-freezes.out
           w.finish-closed.new.messages c.if-freezes.messages c.args.freeze_to.now c.if-freezes.freeze_to
           w.finish-closed.result c.if-freezes.closed
-          (search rules) (search rules) (search rules) (search rules) (search rules)
+          w.session-is w.out-is w.messages-is w.freeze_to-is w.closed-is
           (finish_closes
           g.O.ByteSink.contents g.M.ByteSink.contents g.Z.ByteSink.contents g.O.ByteSink.failures g.M.ByteSink.failures g.Z.ByteSink.failures
           c.args.freezes c.read_sources.new.session c.read_sources.new.out c.read_sources.new.messages c.args.freeze_to.now
-          w.finish-closed.new.self w.finish-closed.new.out w.finish-closed.new.messages w.finish-closed.result (search rules)
+          w.finish-closed.new.self w.finish-closed.new.out w.finish-closed.new.messages w.finish-closed.result w.if-freezes.false
           w.finish-closed.ensures.gives w.finish-closed.ensures.order w.finish-closed.ensures.any_missing w.finish-closed.ensures.write)
-    ] in
-    record {
+    ]) (λ k. record {
       left = close_left c.args.freezes c.read_sources.new.session c.if-freezes.session _ c.in_err-closed.field-0.0
-          c.if-freezes.closed c.from_residual-in_err-closed.result (search rules) (search rules)
+          c.if-freezes.closed c.from_residual-in_err-closed.result c.in_err-closed.was (search rules)
           c.in_ok-read_sources.ensures.left.1 k.gives;
       writes = λ ss s. record {
         gives = late_so c.args.freezes c.args.session.now.limits ss
             (after_sources c.args.session.now.limits ss (progress_of c.args.session.now)) c.args.session.now
             c.read_sources.new.session c.if-freezes.session _ _ _ _ _ _ _ _ refl (c.in_ok-read_sources.ensures.writes ss s).goes
-            c.in_err-closed.field-0.0 c.if-freezes.closed c.from_residual-in_err-closed.result (search rules) (search rules)
+            c.in_err-closed.field-0.0 c.if-freezes.closed c.from_residual-in_err-closed.result c.in_err-closed.was (search rules)
             c.in_ok-read_sources.ensures.left.1 k.gives;
-        order = same_breaks Unit Bool c.in_err-closed.field-0.0 c.if-freezes.closed c.from_residual-in_err-closed.result _ _ (search rules) (search rules)
+        order = same_breaks Unit Bool c.in_err-closed.field-0.0 c.if-freezes.closed c.from_residual-in_err-closed.result _ _ c.in_err-closed.was (search rules)
             (end_step ss c.args.session.now c.read_sources.new.session _ _ _ _ _ _ (c.in_ok-read_sources.ensures.writes ss s).goes) k.order;
       };
       frozen = λ ss s. record {
@@ -103,16 +106,16 @@ returns-in_err-closed g c =
       last = λ ss s. last_so _ _ c.args.freezes c.args.session.now.limits ss
           (after_sources c.args.session.now.limits ss (progress_of c.args.session.now)) c.args.session.now
           c.read_sources.new.session c.if-freezes.session _ _ _ _ _ _ _ _ refl (c.in_ok-read_sources.ensures.writes ss s).goes
-          c.in_err-closed.field-0.0 c.if-freezes.closed c.from_residual-in_err-closed.result (search rules) (search rules)
+          c.in_err-closed.field-0.0 c.if-freezes.closed c.from_residual-in_err-closed.result c.in_err-closed.was (search rules)
           k.writers.spared k.last;
       reads = record {
         reached = λ n. late_reached g.R.ByteSource.script c.args.sources.now
             c.read_sources.new.sources c.args.freezes c.args.session.now c.read_sources.new.session c.if-freezes.session _ _ _
             _ _ _ n c.in_ok-read_sources.ensures.left.1 c.in_ok-read_sources.ensures.reads.reached _ c.in_err-closed.field-0.0
-            c.if-freezes.closed c.from_residual-in_err-closed.result refl (search rules) (search rules) k.gives;
+            c.if-freezes.closed c.from_residual-in_err-closed.result refl c.in_err-closed.was (search rules) k.gives;
         failed = close_sound g.R.ByteSource.script g.R.ByteSource.failures c.args.sources.now
             c.read_sources.new.sources c.args.freezes c.read_sources.new.session c.if-freezes.session _
-            c.in_err-closed.field-0.0 c.if-freezes.closed c.from_residual-in_err-closed.result (search rules) (search rules)
+            c.in_err-closed.field-0.0 c.if-freezes.closed c.from_residual-in_err-closed.result c.in_err-closed.was (search rules)
             k.gives c.in_ok-read_sources.ensures.reads.failed;
         taken = search rules;
       };
@@ -126,25 +129,25 @@ returns-in_err-closed g c =
       writers = uses_so c.args.freezes _ _ _ _ _ _ _ _ _ _ _ _ _ _ c.in_err-closed.field-0.0 c.if-freezes.closed
           c.from_residual-in_err-closed.result c.in_ok-read_sources.ensures.write.0 c.in_ok-read_sources.ensures.write.1
           (search rules) (search rules) k.writers;
-    }
+    })
 
 -- the run came to its end
 pub returns : goal.returns
 returns g c =
-    let k : Closes g.O.ByteSink.contents g.M.ByteSink.contents g.Z.ByteSink.contents g.O.ByteSink.failures g.M.ByteSink.failures g.Z.ByteSink.failures
+    given (Closes g.O.ByteSink.contents g.M.ByteSink.contents g.Z.ByteSink.contents g.O.ByteSink.failures g.M.ByteSink.failures g.Z.ByteSink.failures
     c.args.freezes c.read_sources.new.session c.read_sources.new.out c.read_sources.new.messages c.args.freeze_to.now
-    c.if-freezes.session c.if-freezes.out c.if-freezes.messages c.if-freezes.freeze_to (Ok tt) = elim c.if-freezes.branch [
+    c.if-freezes.session c.if-freezes.out c.if-freezes.messages c.if-freezes.freeze_to (Ok tt)) (elim c.if-freezes.branch [
       | then-freezes w ↦ closes_so
           g.O.ByteSink.contents g.M.ByteSink.contents g.Z.ByteSink.contents g.O.ByteSink.failures g.M.ByteSink.failures g.Z.ByteSink.failures
           c.args.freezes c.read_sources.new.session c.read_sources.new.out c.read_sources.new.messages c.args.freeze_to.now
           w.freeze-closed.new.self c.if-freezes.session w.freeze-closed.new.out c.if-freezes.out
           w.freeze-closed.new.messages c.if-freezes.messages w.freeze-closed.new.freeze_to c.if-freezes.freeze_to
           w.freeze-closed.result (Ok tt)
-          (search rules) (search rules) (search rules) (search rules) (sym c.in_ok-closed.was ∙ w.closed-is)
+          w.session-is w.out-is w.messages-is w.freeze_to-is (sym c.in_ok-closed.was ∙ w.closed-is)
           (freeze_closes
           g.O.ByteSink.contents g.M.ByteSink.contents g.Z.ByteSink.contents g.O.ByteSink.failures g.M.ByteSink.failures g.Z.ByteSink.failures
           c.args.freezes c.read_sources.new.session c.read_sources.new.out c.read_sources.new.messages c.args.freeze_to.now
-          w.freeze-closed.new.self w.freeze-closed.new.out w.freeze-closed.new.messages w.freeze-closed.new.freeze_to w.freeze-closed.result (search rules)
+          w.freeze-closed.new.self w.freeze-closed.new.out w.freeze-closed.new.messages w.freeze-closed.new.freeze_to w.freeze-closed.result w.if-freezes.true
           w.freeze-closed.ensures.gives w.freeze-closed.ensures.order w.freeze-closed.ensures.any_missing
           w.freeze-closed.ensures.write w.freeze-closed.ensures.last)
       | else-freezes w ↦ closes_so
@@ -153,14 +156,13 @@ returns g c =
           w.finish-closed.new.self c.if-freezes.session w.finish-closed.new.out c.if-freezes.out
           w.finish-closed.new.messages c.if-freezes.messages c.args.freeze_to.now c.if-freezes.freeze_to
           w.finish-closed.result (Ok tt)
-          (search rules) (search rules) (search rules) (search rules) (sym c.in_ok-closed.was ∙ w.closed-is)
+          w.session-is w.out-is w.messages-is w.freeze_to-is (sym c.in_ok-closed.was ∙ w.closed-is)
           (finish_closes
           g.O.ByteSink.contents g.M.ByteSink.contents g.Z.ByteSink.contents g.O.ByteSink.failures g.M.ByteSink.failures g.Z.ByteSink.failures
           c.args.freezes c.read_sources.new.session c.read_sources.new.out c.read_sources.new.messages c.args.freeze_to.now
-          w.finish-closed.new.self w.finish-closed.new.out w.finish-closed.new.messages w.finish-closed.result (search rules)
+          w.finish-closed.new.self w.finish-closed.new.out w.finish-closed.new.messages w.finish-closed.result w.if-freezes.false
           w.finish-closed.ensures.gives w.finish-closed.ensures.order w.finish-closed.ensures.any_missing w.finish-closed.ensures.write)
-    ] in
-    record {
+    ]) (λ k. record {
       left = search rules;
       writes = λ ss s. record {
         gives = well_so c.args.freezes c.args.session.now.limits ss c.args.session.now c.read_sources.new.session
@@ -198,4 +200,4 @@ returns g c =
         spared = k.writers.spared;
         spared_by = tt;
       };
-    }
+    })

@@ -94,13 +94,16 @@ returns g c =
     ] in
     record {
       gives = λ file t ss s. starts.begun_gives c.args.options (start_of c.args.options.prefix file) ss c.in-Ok.session
-          c.match-frozen.begun c.ending.result _ _ _ _ _ _ _ _ (search rules) (search rules) (b.gives file t)
+          c.match-frozen.begun c.ending.result _ _ _ _ _ _ _ _ c.in-Ok.is
+          (c.ending.ensures ∙ ap (λ n. ending_by n c.read_to_end-answer.result) c.status-2.ensures) (b.gives file t)
           (c.read_to_end-answer.ensures.writes ss s).gives;
       status = status_so c.args.sources.now _ c.ending.result
           (left_status c.read_to_end-answer.new.session c.read_to_end-answer.result c.ending.result _
-          c.read_to_end-answer.ensures.left (search rules) (search rules)) (λ code e.
+          c.read_to_end-answer.ensures.left (search rules)
+          (c.ending.ensures ∙ ap (λ n. ending_by n c.read_to_end-answer.result) c.status-2.ensures)) (λ code e.
           left_exited c.args.sources.now c.read_to_end-answer.new.sources c.read_to_end-answer.new.session
-          c.read_to_end-answer.result c.ending.result code c.read_to_end-answer.ensures.left (search rules) e
+          c.read_to_end-answer.result c.ending.result code c.read_to_end-answer.ensures.left
+          (c.ending.ensures ∙ ap (λ n. ending_by n c.read_to_end-answer.result) c.status-2.ensures) e
           (λ r. c.read_to_end-answer.ensures.marks.exited code r (begun_unmissed c.args.options c.in-Ok.session c.match-frozen.begun c.in-Ok.is b.begun)));
       sized = λ file t ss s e f.
           starts.begun_state IsSized c.args.options (start_of c.args.options.prefix file) ss c.in-Ok.session
@@ -114,8 +117,12 @@ returns g c =
             c.match-frozen.begun c.read_to_end-answer.new.session _ c.read_to_end-answer.result c.ending.result
             c.in-Ok.is c.ending.ensures c.read_to_end-answer.ensures.left b.read,
       );
-      write = search rules;
-      taken = search rules;
+      write = starts.begun_wrote c.in-Ok.session c.match-frozen.begun _ c.read_to_end-answer.result c.ending.result _ _ _ _ _ _ _
+          (three g.Z.ByteSink.contents
+          (both g.O.ByteSink.contents g.M.ByteSink.contents c.args.out.now c.read_to_end-answer.new.out c.args.messages.now
+          c.read_to_end-answer.new.messages) c.args.freeze_to.now c.read_to_end-answer.new.freeze_to)
+          c.in-Ok.is c.ending.ensures b.write c.read_to_end-answer.ensures.writers.failed;
+      taken = c.read_to_end-answer.ensures.reads.taken;
       order = λ file t ss s. run_told c.args.options (start_of c.args.options.prefix file) ss c.in-Ok.session
           c.match-frozen.begun _ _ _ _ _ _ c.read_to_end-answer.result c.ending.result c.in-Ok.is (b.gives file t)
           c.ending.ensures (c.read_to_end-answer.ensures.writes ss s).order;
@@ -126,11 +133,11 @@ returns g c =
       refused = λ fault e. absurd (starts.not_refused c.read_to_end-answer.new.session _ c.read_to_end-answer.result
           c.ending.result fault c.ending.ensures c.read_to_end-answer.ensures.left e);
       last = λ file t ss s. starts.begun_last c.args.options (start_of c.args.options.prefix file) ss c.in-Ok.session c.match-frozen.begun
-          (ending_by 0 c.read_to_end-answer.result).cause c.ending.result.cause _ _ _ _ _ _ _ _ _ (search rules)
+          (ending_by 0 c.read_to_end-answer.result).cause c.ending.result.cause _ _ _ _ _ _ _ _ _ c.in-Ok.is
           (ap (λ (x : Ending). x.cause) c.ending.ensures ∙ cause_same _ 0 c.read_to_end-answer.result) (b.gives file t)
           (c.read_to_end-answer.ensures.last ss s);
       spared = (
-        search rules,
+        c.read_to_end-answer.ensures.writers.spared,
         starts.ended_spared _ c.read_to_end-answer.result c.ending.result
             (both g.O.ByteSink.contents g.M.ByteSink.contents c.match-frozen.out c.read_to_end-answer.new.out
             c.args.messages.now c.read_to_end-answer.new.messages)

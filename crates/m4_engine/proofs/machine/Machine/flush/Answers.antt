@@ -1,7 +1,8 @@
-use Rattle.std.proofs.Common.{◌≡◌, ◌≤◌, ◌⊎◌, inl, inr, [], rules, arith}
+use Rattle.std.proofs.Common.{◌≡◌, ◌≤◌, ◌⊎◌, inl, inr, [], rules, arith, subst}
 use Rattle.std.proofs.lemmas.List.{nil_from_length}
 use Rattle.std.proofs.lemmas.Grind.{common_steps}
 use Rattle.std.specs.Prelude.{Result, Ok, Err, OnErr}
+use Rattle.m4_state.specs.Device.{HasBegun}
 use Rattle.m4_engine.proofs.Begins.{begun_front, begun_parts, first_breaks, messages_break, own_breaks, nothing_begun}
 use Rattle.m4_engine.proofs.Begins.{all_begun}
 use Rattle.m4_engine.proofs.machine.Machine.flush.Goals as goal
@@ -38,8 +39,11 @@ returns-in_err-write_all-2-clause-order g c =
 
 pub returns-in_err-write_all-2-clause-begun : goal.returns-in_err-write_all-2-clause-begun
 returns-in_err-write_all-2-clause-begun g c =
+    let all : c.deref-2.result.now ≡ c.args.self.now.messages = search rules in
     in_any c.from_residual-in_err-write_all-2.result
-    (begun_front _ _ c.if-is_empty.first c.args.self.now.output (all_begun _ _ _ (search rules)), search rules)
+    (begun_front _ _ c.if-is_empty.first c.args.self.now.output (all_begun _ _ _ (search rules)),
+    subst (HasBegun (g.M.ByteSink.contents c.args.messages.now) (g.M.ByteSink.contents c.write_all-2.new.writer))
+    all c.in_err-write_all-2.ensures.puts)
 
 pub returns-in_err-write_all-3-clause-order : goal.returns-in_err-write_all-3-clause-order
 returns-in_err-write_all-3-clause-order g c =
