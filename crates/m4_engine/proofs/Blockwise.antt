@@ -1,7 +1,7 @@
 -- Blockwise: an input that is expanded block by block is expanded as it is defined, whatever follows.
 use Rattle.std.proofs.Common.{◌≡◌, ◌⊎◌, inl, inr, ◌≤◌, ℕ, Bool, true, false, List, [], ◌++◌, length, Option, None}
 use Rattle.std.proofs.Common.{refl, sym, ap, ◌∙◌, subst, append-nil, append_assoc, arith}
-use Rattle.std.specs.Prelude.{Result, Ok, Err}
+use Rattle.std.specs.Prelude.{Err}
 use Rattle.m4_state.proofs.CallerLaws.{after_bytes-append, with_bytes-append, with_bytes-nil}
 use Rattle.m4_state.specs.Device.{Script, after_bytes, with_bytes, HasBegun, IsAtFault, one_more}
 use Rattle.m4_input.specs.declared.fault.InputFault.{InputFault}

@@ -1,4 +1,4 @@
-use Rattle.std.proofs.Common.{List, ℕ, map, refl, rules}
+use Rattle.std.proofs.Common.{map, refl, rules}
 use Rattle.m4_builtins.specs.QuotesView.{pair_of}
 use Rattle.m4_builtins.specs.Args.{text_of_arg}
 use Rattle.m4_builtins.proofs.Joins.{all_plain}

@@ -1,12 +1,9 @@
-use Rattle.std.proofs.Common.{◌≡◌, ◌≢◌, ◌∙◌, List, [], ℕ, None, Some, false, rules, refl, sym, ap, subst, take}
+use Rattle.std.proofs.Common.{◌≡◌, ◌∙◌, List, [], ℕ, None, Some, false, rules, refl, sym, ap, subst, take}
 use Rattle.m4_state.specs.declared.definition.Def.TheVariants.{Text, Builtin}
 use Rattle.m4_state.specs.declared.builtin.Builtin.TheVariants.{Dnl}
-use Rattle.m4_input.specs.declared.front.Scan.TheVariants.{Broken}
-use Rattle.m4_input.specs.declared.front.Unended.TheVariants.{InString, InComment}
 use Rattle.m4_input.specs.declared.pushed.Pushed.TheVariants as pushes
 use Rattle.m4_input.specs.Pending.{text_of}
 use Rattle.m4_input.specs.Input.{Held, longer}
-use Rattle.m4_input.specs.Token.{scan}
 use Rattle.m4_input.specs.declared.token.Token.TheVariants.{Name}
 use Rattle.std.specs.Prelude.{Ok, Result}
 use Rattle.m4_engine.specs.declared.role.ListEnd.TheVariants as ends
@@ -14,14 +11,14 @@ use Rattle.m4_engine.specs.declared.turned.Turned.{Turned}
 use Rattle.m4_engine.specs.declared.turned.Turned.TheVariants as turns
 use Rattle.m4_builtins.specs.declared.fault.BuiltinFault.{BuiltinFault as TurnFault}
 use Rattle.m4_engine.specs.declared.lookahead.Lookahead.TheVariants as aheads
-use Rattle.m4_engine.specs.Engine.{Engine, IsReady, with_made}
+use Rattle.m4_engine.specs.Engine.{Engine, with_made}
 use Rattle.m4_engine.specs.Turns.{Pushes, Turns, Stays}
 use Rattle.m4_engine.proofs.Bare.{expanded_goes, text_goes}
 use Rattle.m4_engine.proofs.Fronts.{at_error, front_same}
 use Rattle.m4_engine.proofs.ListEnds.{closing_completes, end_inside}
-use Rattle.m4_engine.proofs.Passing.{past, past_nothing, past_taken, seen_as}
+use Rattle.m4_engine.proofs.Passing.{past, past_taken, seen_as}
 use Rattle.m4_engine.proofs.Seen.{room_allows, name_there, expansion_moves, line_skips}
-use Rattle.m4_engine.proofs.Turning.{found_steps_at, end_turn, broken_turn, undecided_turn}
+use Rattle.m4_engine.proofs.Turning.{found_steps_at}
 use Rattle.m4_engine.proofs.machine.Machine.begin_turn.Goals as goal
 
 -- the innermost call has no open parenthesis in its argument

@@ -1,6 +1,5 @@
 -- The innermost call has its argument complete, and the others are as they were.
 use Rattle.std.proofs.Common.{◌≡◌, ◌<◌, ◌≤◌, ◌-◌, ◌∷◌, ◌++◌, List, ℕ, length, ap, ap₂, refl, sym, ◌∙◌, arith, rules}
-use Rattle.std.proofs.lemmas.Grind.{common_steps}
 use Rattle.std.specs.Prelude.{slice_set, slice_index_or}
 use Rattle.m4_engine.specs.Args.{dropped_if_any, with_argument}
 use Rattle.m4_engine.specs.Engine.{Engine, ending_in, ending_argument}

@@ -1,4 +1,4 @@
-use Rattle.std.proofs.Common.{◌≡◌, ℕ, Bool, List, Option, subst, rules}
+use Rattle.std.proofs.Common.{◌≡◌, Option, subst, rules}
 use Rattle.m4_input.specs.declared.pushed.Pushed.{Pushed}
 use Rattle.m4_engine.specs.Turns.{Pushes}
 use Rattle.m4_engine.proofs.machine.calls.give_more.Goals as goal
