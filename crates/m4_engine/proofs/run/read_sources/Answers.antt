@@ -1,4 +1,4 @@
-use Rattle.std.proofs.Common.{◌≡◌, ℕ, rules, refl, sym, subst, ◌+◌, ◌∙◌}
+use Rattle.std.proofs.Common.{◌≡◌, ◌<◌, ℕ, length, rules, refl, sym, subst, ◌+◌, ◌∙◌}
 use Rattle.std.specs.Prelude.{Result, Ok, Err, OnOk, slice_index_or, slice_set}
 use Rattle.m4_engine.specs.declared.ending.Cause.TheVariants as causes
 use Rattle.m4_engine.specs.declared.source.Source.{Source as RunSource}
@@ -48,6 +48,7 @@ sources-init g c = (
 
 pub sources-preserved : goal.sources-preserved
 sources-preserved g c =
+    let inside : c.sources.source-index < length c.sources.sources = search rules in
     given ((v : RunSource g.row.R.Denot)
     × (c.match-source.sources ≡ slice_set c.sources.sources c.sources.source-index v)
     × OneRead g.R.ByteSource.script g.R.ByteSource.failures g.O.ByteSink.contents g.M.ByteSink.contents
@@ -93,28 +94,30 @@ sources-preserved g c =
       rest_kept c.sources.sources c.args.sources.now c.sources.source-index k.0 c.sources.invariant.1,
       (k.2.write.0 ∙ c.sources.invariant.2.0, k.2.write.1 ∙ c.sources.invariant.2.1),
       pair_item (ConsumesOnly g.R.ByteSource.script) c.sources.source-index c.sources.sources c.args.sources.now
-          c.source-item.result k.0 c.sources.invariant.3 c.sources.invariant.1 (search rules) k.2.reads.taken,
+          c.source-item.result k.0 c.sources.invariant.3 c.sources.invariant.1 inside k.2.reads.taken,
       λ ss e.
           let t = item g.R.ByteSource.script c.sources.source-index c.sources.sources c.args.sources.now
-          c.source-item.result k.0 ss c.sources.invariant.1 (search rules) e in
+          c.source-item.result k.0 ss c.sources.invariant.1 inside e in
           one_read ss c.sources.source-index (c.sources.source-index + 1) c.args.session.now c.sources.session
           c.match-source.session t.source _ _ _ _ _ _ (c.sources.invariant.4 ss t.first) t.there
           ((k.2.writes t.source t.describes).goes).0,
       pair_item (is_sound g.R.ByteSource.failures) c.sources.source-index c.sources.sources c.args.sources.now
-          c.source-item.result k.0 c.sources.invariant.5 c.sources.invariant.1 (search rules) k.2.reads.failed,
+          c.source-item.result k.0 c.sources.invariant.5 c.sources.invariant.1 inside k.2.reads.failed,
       missed_on c.sources.source-index c.sources.sources c.args.sources.now c.source-item.result
-          c.sources.session.any_missing c.match-source.session.any_missing _ c.sources.invariant.1 (search rules)
+          c.sources.session.any_missing c.match-source.session.any_missing _ c.sources.invariant.1 inside
           k.2.marks.read c.sources.invariant.6,
       one_more_read g.R.ByteSource.script c.sources.source-index c.sources.sources c.args.sources.now
           c.source-item.result k.0 c.args.session.now c.sources.session c.match-source.session _ _ _ _ _ _
-          c.sources.invariant.1 (search rules) c.sources.invariant.7 k.2.reads.reached,
+          c.sources.invariant.1 inside c.sources.invariant.7 k.2.reads.reached,
       begun_on c.sources.source-index c.sources.sources c.args.sources.now c.source-item.result
-          c.sources.session.any_missing c.match-source.session.any_missing _ c.sources.invariant.1 (search rules)
+          c.sources.session.any_missing c.match-source.session.any_missing _ c.sources.invariant.1 inside
           k.2.marks.read c.sources.invariant.8,
     ))
 
 pub returns-in_err-answer : goal.returns-in_err-answer
 returns-in_err-answer g c =
+    let broken : c.from_residual.result ≡ Err c.in_err-answer.field-0.0 = search rules in
+    let inside : c.sources.source-index < length c.sources.sources = search rules in
     given ((v : RunSource g.row.R.Denot)
     × (c.match-source.sources ≡ slice_set c.sources.sources c.sources.source-index v)
     × OneRead g.R.ByteSource.script g.R.ByteSource.failures g.O.ByteSink.contents g.M.ByteSink.contents
@@ -157,48 +160,49 @@ returns-in_err-answer g c =
       )
     ]) (λ k. rw k.1 (record {
       left = stopped_by (λ r. IsLeft c.match-source.session r × OnOk r (IsOpen c.match-source.session)) c.in_err-answer.field-0.0
-          c.match-source.answer c.from_residual.result c.in_err-answer.was (search rules) k.2.left;
+          c.match-source.answer c.from_residual.result c.in_err-answer.was broken k.2.left;
       writes = λ ss e.
           let t = item g.R.ByteSource.script c.sources.source-index c.sources.sources c.args.sources.now
-          c.source-item.result k.0 ss c.sources.invariant.1 (search rules)
+          c.source-item.result k.0 ss c.sources.invariant.1 inside
           (first_for g.R.ByteSource.script (c.sources.source-index + 1) c.args.sources.now _ ss e) in
           record {
             goes = stopped_so ss c.sources.source-index (c.sources.source-index + 1) c.args.session.now c.sources.session
                 c.match-source.session t.source _ _ _ _ _ _ c.in_err-answer.field-0.0 c.match-source.answer c.from_residual.result
-                c.in_err-answer.was (search rules) c.requires (c.sources.invariant.4 ss t.first) t.there
+                c.in_err-answer.was broken c.requires (c.sources.invariant.4 ss t.first) t.there
                 (k.2.writes t.source t.describes).goes;
             order = step_so ss c.sources.source-index (c.sources.source-index + 1) c.args.session.now c.sources.session t.source _ _ _
-                _ _ _ c.in_err-answer.field-0.0 c.match-source.answer c.from_residual.result c.in_err-answer.was (search rules)
+                _ _ _ c.in_err-answer.field-0.0 c.match-source.answer c.from_residual.result c.in_err-answer.was broken
                 (c.sources.invariant.4 ss t.first) t.there (k.2.writes t.source t.describes).order;
           };
       reads = record {
         reached = stops_so g.R.ByteSource.script c.sources.source-index c.sources.sources
             c.args.sources.now c.source-item.result k.0 c.args.session.now c.sources.session c.match-source.session
-            _ _ _ _ _ _ c.sources.invariant.1 (search rules) c.sources.invariant.7 c.in_err-answer.field-0.0 c.match-source.answer
-            c.from_residual.result c.in_err-answer.was (search rules) k.2.reads.reached;
+            _ _ _ _ _ _ c.sources.invariant.1 inside c.sources.invariant.7 c.in_err-answer.field-0.0 c.match-source.answer
+            c.from_residual.result c.in_err-answer.was broken k.2.reads.reached;
         failed = sources_fail g.R.ByteSource.script g.R.ByteSource.failures c.sources.source-index c.sources.sources
             c.args.sources.now c.source-item.result k.0 c.in_err-answer.field-0.0 c.match-source.answer
-            c.from_residual.result c.in_err-answer.was (search rules) c.sources.invariant.5 c.sources.invariant.1 (search rules)
+            c.from_residual.result c.in_err-answer.was broken c.sources.invariant.5 c.sources.invariant.1 inside
             k.2.reads.failed;
         taken = pair_item (ConsumesOnly g.R.ByteSource.script) c.sources.source-index c.sources.sources
-            c.args.sources.now c.source-item.result k.0 c.sources.invariant.3 c.sources.invariant.1 (search rules)
+            c.args.sources.now c.source-item.result k.0 c.sources.invariant.3 c.sources.invariant.1 inside
             k.2.reads.taken;
       };
       marks = record {
         read = search rules;
         exited = λ code e n.
             exited_there c.sources.source-index c.sources.sources c.args.sources.now c.source-item.result k.0
-            c.sources.session.any_missing c.match-source.session.any_missing _ c.sources.invariant.1 (search rules)
+            c.sources.session.any_missing c.match-source.session.any_missing _ c.sources.invariant.1 inside
             c.sources.invariant.8
-            (k.2.marks.exited code (same_stop c.in_err-answer.field-0.0 _ c.match-source.answer c.from_residual.result c.in_err-answer.was (search rules) e)) n;
+            (k.2.marks.exited code (same_stop c.in_err-answer.field-0.0 _ c.match-source.answer c.from_residual.result c.in_err-answer.was broken e)) n;
       };
       write = stopped_by (λ r. WriteFails r (both g.O.ByteSink.failures g.M.ByteSink.failures c.args.out.now c.match-source.out
           c.args.messages.now c.match-source.messages)) c.in_err-answer.field-0.0 c.match-source.answer c.from_residual.result
-          c.in_err-answer.was (search rules) (fails_on c.match-source.answer _ _ _ _ _ _ c.sources.invariant.2.0 c.sources.invariant.2.1 k.2.write);
+          c.in_err-answer.was broken (fails_on c.match-source.answer _ _ _ _ _ _ c.sources.invariant.2.0 c.sources.invariant.2.1 k.2.write);
     }))
 
 pub returns-in_default : goal.returns-in_default
 returns-in_default g c =
+    let inside : c.sources.source-index < length c.sources.sources = search rules in
     let k : OneRead g.R.ByteSource.script g.R.ByteSource.failures g.O.ByteSink.contents g.M.ByteSink.contents g.O.ByteSink.failures g.M.ByteSink.failures
     (slice_index_or c.sources.sources c.sources.source-index c.source-item.result)
     (sources.Opened c.in-Opened.name c.in-Opened.reader) c.sources.session c.sources.out c.sources.messages
@@ -212,7 +216,7 @@ returns-in_default g c =
       writes = λ ss e.
           let t = item g.R.ByteSource.script c.sources.source-index c.sources.sources c.args.sources.now
           c.source-item.result (sources.Opened c.in-Opened.name c.in-Opened.reader) ss c.sources.invariant.1
-          (search rules) (first_for g.R.ByteSource.script (c.sources.source-index + 1) c.args.sources.now _ ss e) in
+          inside (first_for g.R.ByteSource.script (c.sources.source-index + 1) c.args.sources.now _ ss e) in
           record {
             goes = stopped_so ss c.sources.source-index (c.sources.source-index + 1) c.args.session.now c.sources.session
                 c.settle.new.self t.source _ _ _ _ _ _ (stops.Ended causes.OutOfMemory) c.settle.result c.settle.result
@@ -225,22 +229,22 @@ returns-in_default g c =
       reads = record {
         reached = stops_so g.R.ByteSource.script c.sources.source-index c.sources.sources
             c.args.sources.now c.source-item.result (sources.Opened c.in-Opened.name c.in-Opened.reader) c.args.session.now c.sources.session c.settle.new.self
-            _ _ _ _ _ _ c.sources.invariant.1 (search rules) c.sources.invariant.7 (stops.Ended causes.OutOfMemory) c.settle.result
+            _ _ _ _ _ _ c.sources.invariant.1 inside c.sources.invariant.7 (stops.Ended causes.OutOfMemory) c.settle.result
             c.settle.result (search rules) (search rules) k.reads.reached;
         failed = sources_fail g.R.ByteSource.script g.R.ByteSource.failures c.sources.source-index c.sources.sources
             c.args.sources.now c.source-item.result (sources.Opened c.in-Opened.name c.in-Opened.reader) (stops.Ended causes.OutOfMemory) c.settle.result
-            c.settle.result (search rules) (search rules) c.sources.invariant.5 c.sources.invariant.1 (search rules)
+            c.settle.result (search rules) (search rules) c.sources.invariant.5 c.sources.invariant.1 inside
             k.reads.failed;
         taken = pair_item (ConsumesOnly g.R.ByteSource.script) c.sources.source-index c.sources.sources
             c.args.sources.now c.source-item.result (sources.Opened c.in-Opened.name c.in-Opened.reader)
-            c.sources.invariant.3 c.sources.invariant.1 (search rules) k.reads.taken;
+            c.sources.invariant.3 c.sources.invariant.1 inside k.reads.taken;
       };
       marks = record {
         read = search rules;
         exited = λ code e n.
             exited_there c.sources.source-index c.sources.sources c.args.sources.now c.source-item.result
             (sources.Opened c.in-Opened.name c.in-Opened.reader) c.sources.session.any_missing
-            c.settle.new.self.any_missing _ c.sources.invariant.1 (search rules) c.sources.invariant.8
+            c.settle.new.self.any_missing _ c.sources.invariant.1 inside c.sources.invariant.8
             (k.marks.exited code (same_stop (stops.Ended causes.OutOfMemory) _ c.settle.result c.settle.result (search rules) (search rules) e)) n;
       };
       write = search rules;

@@ -1,5 +1,5 @@
-use Rattle.std.proofs.Common.{rules, refl, sym, ◌∙◌, Bool}
-use Rattle.std.specs.Prelude.{Ok}
+use Rattle.std.proofs.Common.{◌≡◌, rules, refl, sym, ◌∙◌, Bool}
+use Rattle.std.specs.Prelude.{Ok, Err}
 use Rattle.m4_engine.specs.File.{after_sources}
 use Rattle.m4_engine.specs.Session.{progress_of}
 use Rattle.m4_engine.proofs.Readers.{same_fails, close_sound}
@@ -59,6 +59,7 @@ returns-in_err-read_sources-clause-marks g c = record {
 -- the end of the run is broken off
 pub returns-in_err-closed : goal.returns-in_err-closed
 returns-in_err-closed g c =
+    let broken : c.from_residual-in_err-closed.result ≡ Err c.in_err-closed.field-0.0 = search rules in
     given (Closes g.O.ByteSink.contents g.M.ByteSink.contents g.Z.ByteSink.contents g.O.ByteSink.failures g.M.ByteSink.failures g.Z.ByteSink.failures
     c.args.freezes c.read_sources.new.session c.read_sources.new.out c.read_sources.new.messages c.args.freeze_to.now
     c.if-freezes.session c.if-freezes.out c.if-freezes.messages c.if-freezes.freeze_to c.if-freezes.closed) (elim c.if-freezes.branch [
@@ -89,15 +90,15 @@ returns-in_err-closed g c =
           w.finish-closed.ensures.gives w.finish-closed.ensures.order w.finish-closed.ensures.any_missing w.finish-closed.ensures.write)
     ]) (λ k. record {
       left = close_left c.args.freezes c.read_sources.new.session c.if-freezes.session _ c.in_err-closed.field-0.0
-          c.if-freezes.closed c.from_residual-in_err-closed.result c.in_err-closed.was (search rules)
+          c.if-freezes.closed c.from_residual-in_err-closed.result c.in_err-closed.was broken
           c.in_ok-read_sources.ensures.left.1 k.gives;
       writes = λ ss s. record {
         gives = late_so c.args.freezes c.args.session.now.limits ss
             (after_sources c.args.session.now.limits ss (progress_of c.args.session.now)) c.args.session.now
             c.read_sources.new.session c.if-freezes.session _ _ _ _ _ _ _ _ refl (c.in_ok-read_sources.ensures.writes ss s).goes
-            c.in_err-closed.field-0.0 c.if-freezes.closed c.from_residual-in_err-closed.result c.in_err-closed.was (search rules)
+            c.in_err-closed.field-0.0 c.if-freezes.closed c.from_residual-in_err-closed.result c.in_err-closed.was broken
             c.in_ok-read_sources.ensures.left.1 k.gives;
-        order = same_breaks Unit Bool c.in_err-closed.field-0.0 c.if-freezes.closed c.from_residual-in_err-closed.result _ _ c.in_err-closed.was (search rules)
+        order = same_breaks Unit Bool c.in_err-closed.field-0.0 c.if-freezes.closed c.from_residual-in_err-closed.result _ _ c.in_err-closed.was broken
             (end_step ss c.args.session.now c.read_sources.new.session _ _ _ _ _ _ (c.in_ok-read_sources.ensures.writes ss s).goes) k.order;
       };
       frozen = λ ss s. record {
@@ -106,16 +107,16 @@ returns-in_err-closed g c =
       last = λ ss s. last_so _ _ c.args.freezes c.args.session.now.limits ss
           (after_sources c.args.session.now.limits ss (progress_of c.args.session.now)) c.args.session.now
           c.read_sources.new.session c.if-freezes.session _ _ _ _ _ _ _ _ refl (c.in_ok-read_sources.ensures.writes ss s).goes
-          c.in_err-closed.field-0.0 c.if-freezes.closed c.from_residual-in_err-closed.result c.in_err-closed.was (search rules)
+          c.in_err-closed.field-0.0 c.if-freezes.closed c.from_residual-in_err-closed.result c.in_err-closed.was broken
           k.writers.spared k.last;
       reads = record {
         reached = λ n. late_reached g.R.ByteSource.script c.args.sources.now
             c.read_sources.new.sources c.args.freezes c.args.session.now c.read_sources.new.session c.if-freezes.session _ _ _
             _ _ _ n c.in_ok-read_sources.ensures.left.1 c.in_ok-read_sources.ensures.reads.reached _ c.in_err-closed.field-0.0
-            c.if-freezes.closed c.from_residual-in_err-closed.result refl c.in_err-closed.was (search rules) k.gives;
+            c.if-freezes.closed c.from_residual-in_err-closed.result refl c.in_err-closed.was broken k.gives;
         failed = close_sound g.R.ByteSource.script g.R.ByteSource.failures c.args.sources.now
             c.read_sources.new.sources c.args.freezes c.read_sources.new.session c.if-freezes.session _
-            c.in_err-closed.field-0.0 c.if-freezes.closed c.from_residual-in_err-closed.result c.in_err-closed.was (search rules)
+            c.in_err-closed.field-0.0 c.if-freezes.closed c.from_residual-in_err-closed.result c.in_err-closed.was broken
             k.gives c.in_ok-read_sources.ensures.reads.failed;
         taken = search rules;
       };
@@ -128,7 +129,7 @@ returns-in_err-closed g c =
       };
       writers = uses_so c.args.freezes _ _ _ _ _ _ _ _ _ _ _ _ _ _ c.in_err-closed.field-0.0 c.if-freezes.closed
           c.from_residual-in_err-closed.result c.in_ok-read_sources.ensures.write.0 c.in_ok-read_sources.ensures.write.1
-          (search rules) (search rules) k.writers;
+          c.in_err-closed.was broken k.writers;
     })
 
 -- the run came to its end

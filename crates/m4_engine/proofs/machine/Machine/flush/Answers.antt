@@ -33,9 +33,12 @@ returns-in_err-write_all-2-clause-order g c =
       | then-is_empty w ↦ inl (nil_from_length c.args.self.now.messages (search rules))
       | else-is_empty w ↦ inr (search rules)
     ] in
+    let all : c.deref-2.result.now ≡ c.args.self.now.messages = search rules in
     in_any c.from_residual-in_err-write_all-2.result
     (messages_break _ _ _ _ c.args.earlier c.if-is_empty.first c.args.self.now.output c.args.self.now.messages
-    reported (search rules) (search rules))
+    reported (search rules)
+    (subst (HasBegun (g.M.ByteSink.contents c.args.messages.now) (g.M.ByteSink.contents c.write_all-2.new.writer))
+    all c.in_err-write_all-2.ensures.puts))
 
 pub returns-in_err-write_all-2-clause-begun : goal.returns-in_err-write_all-2-clause-begun
 returns-in_err-write_all-2-clause-begun g c =
