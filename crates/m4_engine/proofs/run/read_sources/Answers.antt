@@ -48,7 +48,7 @@ sources-init g c = (
 
 pub sources-preserved : goal.sources-preserved
 sources-preserved g c =
-    let inside : c.sources.source-index < length c.sources.sources = search rules in
+    given (c.sources.source-index < length c.sources.sources) (search rules) (λ inside.
     given ((v : RunSource g.row.R.Denot)
     × (c.match-source.sources ≡ slice_set c.sources.sources c.sources.source-index v)
     × OneRead g.R.ByteSource.script g.R.ByteSource.failures g.O.ByteSink.contents g.M.ByteSink.contents
@@ -112,12 +112,12 @@ sources-preserved g c =
       begun_on c.sources.source-index c.sources.sources c.args.sources.now c.source-item.result
           c.sources.session.any_missing c.match-source.session.any_missing _ c.sources.invariant.1 inside
           k.2.marks.read c.sources.invariant.8,
-    ))
+    )))
 
 pub returns-in_err-answer : goal.returns-in_err-answer
 returns-in_err-answer g c =
-    let broken : c.from_residual.result ≡ Err c.in_err-answer.field-0.0 = search rules in
-    let inside : c.sources.source-index < length c.sources.sources = search rules in
+    given (c.from_residual.result ≡ Err c.in_err-answer.field-0.0) (search rules) (λ broken.
+    given (c.sources.source-index < length c.sources.sources) (search rules) (λ inside.
     given ((v : RunSource g.row.R.Denot)
     × (c.match-source.sources ≡ slice_set c.sources.sources c.sources.source-index v)
     × OneRead g.R.ByteSource.script g.R.ByteSource.failures g.O.ByteSink.contents g.M.ByteSink.contents
@@ -198,7 +198,7 @@ returns-in_err-answer g c =
       write = stopped_by (λ r. WriteFails r (both g.O.ByteSink.failures g.M.ByteSink.failures c.args.out.now c.match-source.out
           c.args.messages.now c.match-source.messages)) c.in_err-answer.field-0.0 c.match-source.answer c.from_residual.result
           c.in_err-answer.was broken (fails_on c.match-source.answer _ _ _ _ _ _ c.sources.invariant.2.0 c.sources.invariant.2.1 k.2.write);
-    }))
+    }))))
 
 pub returns-in_default : goal.returns-in_default
 returns-in_default g c =

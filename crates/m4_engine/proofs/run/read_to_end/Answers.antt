@@ -1,5 +1,6 @@
 use Rattle.std.proofs.Common.{◌≡◌, rules, refl, sym, ◌∙◌, Bool}
 use Rattle.std.specs.Prelude.{Ok, Err}
+use Rattle.m4_engine.specs.declared.stop.Stop.{Stop}
 use Rattle.m4_engine.specs.File.{after_sources}
 use Rattle.m4_engine.specs.Session.{progress_of}
 use Rattle.m4_engine.proofs.Readers.{same_fails, close_sound}
@@ -12,6 +13,9 @@ use Rattle.m4_engine.proofs.Ordering.{same_breaks, sources_step, end_step}
 use Rattle.m4_engine.proofs.run.read_to_end.Goals.{then-freezes, else-freezes}
 use Rattle.m4_engine.proofs.run.read_to_end.Goals as goal
 use Rattle.m4_engine.specs.SessionSteps.{ending_by}
+
+went_well : {A : Type 0} {x : A} {e : Stop} → Ok x ≡ Err e → ⊥
+went_well h = cc
 
 -- a fact that is used more than once
 given : (A : Type 0) {B : Type 0} → A → (A → B) → B
@@ -59,7 +63,7 @@ returns-in_err-read_sources-clause-marks g c = record {
 -- the end of the run is broken off
 pub returns-in_err-closed : goal.returns-in_err-closed
 returns-in_err-closed g c =
-    let broken : c.from_residual-in_err-closed.result ≡ Err c.in_err-closed.field-0.0 = search rules in
+    given (c.from_residual-in_err-closed.result ≡ Err c.in_err-closed.field-0.0) (search rules) (λ broken.
     given (Closes g.O.ByteSink.contents g.M.ByteSink.contents g.Z.ByteSink.contents g.O.ByteSink.failures g.M.ByteSink.failures g.Z.ByteSink.failures
     c.args.freezes c.read_sources.new.session c.read_sources.new.out c.read_sources.new.messages c.args.freeze_to.now
     c.if-freezes.session c.if-freezes.out c.if-freezes.messages c.if-freezes.freeze_to c.if-freezes.closed) (elim c.if-freezes.branch [
@@ -130,7 +134,7 @@ returns-in_err-closed g c =
       writers = uses_so c.args.freezes _ _ _ _ _ _ _ _ _ _ _ _ _ _ c.in_err-closed.field-0.0 c.if-freezes.closed
           c.from_residual-in_err-closed.result c.in_ok-read_sources.ensures.write.0 c.in_ok-read_sources.ensures.write.1
           c.in_err-closed.was broken k.writers;
-    })
+    }))
 
 -- the run came to its end
 pub returns : goal.returns
@@ -187,8 +191,8 @@ returns g c =
         taken = search rules;
       };
       marks = record {
-        read = search rules;
-        exited = λ code e n. absurd cc;
+        read = k.any_missing ∙ c.in_ok-read_sources.ensures.marks.read;
+        exited = λ code e n. absurd (went_well e);
       };
       writers = record {
         failed = (
