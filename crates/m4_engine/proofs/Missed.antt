@@ -1,5 +1,6 @@
 -- Missed: whether a source wasn't opened, of those that a run began with.
 use Rattle.std.proofs.Common.{◌≡◌, ◌<◌, ℕ, zero, suc, ◌+◌, Bool, true, false, List, [], ◌∷◌, ◌++◌, length, take, drop}
+use Rattle.std.proofs.Common.{IsErr, IsErrAnd}
 use Rattle.std.proofs.Common.{drop-cons, Option, Some, refl, sym, ap, ◌∙◌, subst, inl, inr, arith}
 use Rattle.std.specs.Prelude.{◌||◌, Result, Ok, Err, slice_set, slice_index_or}
 use Rattle.std.proofs.lemmas.List.{drop-drop, take-append-drop}
@@ -84,6 +85,11 @@ exited_there i xs ys x v m m' t e l k h n =
 -- the run ended after its last source
 pub exited_late : {R : Type 0} (xs ys : List (RunSource R)) (m m' t : Bool) → m ≡ (any_unopened xs || t) → m' ≡ m → t ≡ false → MissedBy xs ys m'
 exited_late xs ys m m' t h k n = inr (k ∙ h ∙ ap (λ (c : Bool). any_unopened xs || c) n ∙ or_none (any_unopened xs))
+
+-- the error that an answer passes on
+pub passed_on : {A E : Type 0} (r : Result A E) (e : E) → IsErr r × IsErrAnd r (λ x. x ≡ e) → r ≡ Err e
+passed_on (Ok x) e h = let n : false ≡ true = h.0 in absurd cc
+passed_on (Err x) e h = ap (λ y. Err y) h.1
 
 -- a call that ends the run so
 pub same_stop : {A B : Type 0} (f s : Stop) (q : Result A Stop) (r : Result B Stop) → q ≡ Err f → r ≡ Err f → r ≡ Err s → q ≡ Err s

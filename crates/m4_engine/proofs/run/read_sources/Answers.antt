@@ -13,15 +13,11 @@ use Rattle.m4_engine.specs.RunSources.{is_sound, ConsumesOnly}
 use Rattle.m4_engine.proofs.Reading.{none_read, one_read, all_read, stopped_so, item, first_for, none_left, rest_kept}
 use Rattle.m4_engine.proofs.Readers.{none_taken_yet, all_sound, pair_item, sources_fail, missed_on, missed_last}
 use Rattle.m4_engine.proofs.Reached.{none_yet, one_more_read, stops_so, all_read_so}
-use Rattle.m4_engine.proofs.Missed.{begun_on, exited_there, same_stop}
+use Rattle.m4_engine.proofs.Missed.{begun_on, exited_there, same_stop, passed_on}
 use Rattle.m4_engine.proofs.Reading.{step_so}
 use Rattle.m4_engine.proofs.OneSource.{OneRead, file_read, missing_read, read_so, unread}
 use Rattle.m4_engine.proofs.run.read_sources.Goals.{in-Opened+in-Ok, in-Unopened}
 use Rattle.m4_engine.proofs.run.read_sources.Goals as goal
-
--- a fact that is used more than once
-given : (A : Type 0) {B : Type 0} → A → (A → B) → B
-given A a f = f a
 
 -- what is so of the call's error is so of the answer that passes it on
 stopped_by : (P : Result Unit Stop → Type 0) (e : Stop) (q r : Result Unit Stop) → q ≡ Err e → r ≡ Err e → P q → P r
@@ -48,13 +44,13 @@ sources-init g c = (
 
 pub sources-preserved : goal.sources-preserved
 sources-preserved g c =
-    given (c.sources.source-index < length c.sources.sources) (search rules) (λ inside.
-    given ((v : RunSource g.row.R.Denot)
+    let inside : c.sources.source-index < length c.sources.sources = search rules in
+    let k : (v : RunSource g.row.R.Denot)
     × (c.match-source.sources ≡ slice_set c.sources.sources c.sources.source-index v)
     × OneRead g.R.ByteSource.script g.R.ByteSource.failures g.O.ByteSink.contents g.M.ByteSink.contents
     g.O.ByteSink.failures g.M.ByteSink.failures
     (slice_index_or c.sources.sources c.sources.source-index c.source-item.result) v c.sources.session c.sources.out c.sources.messages
-    c.match-source.session c.match-source.out c.match-source.messages (Ok tt)) (elim c.match-source.branch [
+    c.match-source.session c.match-source.out c.match-source.messages (Ok tt) = elim c.match-source.branch [
       | in-Opened+in-Ok w ↦ (
         sources.Opened w.in-Opened.name w.file-answer.new.reader,
         w.sources-is,
@@ -89,7 +85,8 @@ sources-preserved g c =
             w.missing-answer.new.self w.missing-answer.new.messages w.missing-answer.result (search rules) (search rules)
             c.sources.invariant.0 w.missing-answer.ensures.gives w.missing-answer.ensures.write w.missing-answer.ensures.any_missing),
       )
-    ]) (λ k. rw k.1 (
+    ] in
+    rw k.1 (
       k.2.left.1,
       rest_kept c.sources.sources c.args.sources.now c.sources.source-index k.0 c.sources.invariant.1,
       (k.2.write.0 ∙ c.sources.invariant.2.0, k.2.write.1 ∙ c.sources.invariant.2.1),
@@ -112,18 +109,18 @@ sources-preserved g c =
       begun_on c.sources.source-index c.sources.sources c.args.sources.now c.source-item.result
           c.sources.session.any_missing c.match-source.session.any_missing _ c.sources.invariant.1 inside
           k.2.marks.read c.sources.invariant.8,
-    )))
+    )
 
 pub returns-in_err-answer : goal.returns-in_err-answer
 returns-in_err-answer g c =
-    given (c.from_residual.result ≡ Err c.in_err-answer.field-0.0) (search rules) (λ broken.
-    given (c.sources.source-index < length c.sources.sources) (search rules) (λ inside.
-    given ((v : RunSource g.row.R.Denot)
+    let broken : c.from_residual.result ≡ Err c.in_err-answer.field-0.0 = passed_on _ _ c.from_residual.ensures in
+    let inside : c.sources.source-index < length c.sources.sources = search rules in
+    let k : (v : RunSource g.row.R.Denot)
     × (c.match-source.sources ≡ slice_set c.sources.sources c.sources.source-index v)
     × OneRead g.R.ByteSource.script g.R.ByteSource.failures g.O.ByteSink.contents g.M.ByteSink.contents
     g.O.ByteSink.failures g.M.ByteSink.failures
     (slice_index_or c.sources.sources c.sources.source-index c.source-item.result) v c.sources.session c.sources.out c.sources.messages
-    c.match-source.session c.match-source.out c.match-source.messages c.match-source.answer) (elim c.match-source.branch [
+    c.match-source.session c.match-source.out c.match-source.messages c.match-source.answer = elim c.match-source.branch [
       | in-Opened+in-Ok w ↦ (
         sources.Opened w.in-Opened.name w.file-answer.new.reader,
         w.sources-is,
@@ -158,7 +155,8 @@ returns-in_err-answer g c =
             w.missing-answer.new.self w.missing-answer.new.messages w.missing-answer.result (search rules) (search rules)
             c.sources.invariant.0 w.missing-answer.ensures.gives w.missing-answer.ensures.write w.missing-answer.ensures.any_missing),
       )
-    ]) (λ k. rw k.1 (record {
+    ] in
+    rw k.1 (record {
       left = stopped_by (λ r. IsLeft c.match-source.session r × OnOk r (IsOpen c.match-source.session)) c.in_err-answer.field-0.0
           c.match-source.answer c.from_residual.result c.in_err-answer.was broken k.2.left;
       writes = λ ss e.
@@ -198,7 +196,7 @@ returns-in_err-answer g c =
       write = stopped_by (λ r. WriteFails r (both g.O.ByteSink.failures g.M.ByteSink.failures c.args.out.now c.match-source.out
           c.args.messages.now c.match-source.messages)) c.in_err-answer.field-0.0 c.match-source.answer c.from_residual.result
           c.in_err-answer.was broken (fails_on c.match-source.answer _ _ _ _ _ _ c.sources.invariant.2.0 c.sources.invariant.2.1 k.2.write);
-    }))))
+    })
 
 pub returns-in_default : goal.returns-in_default
 returns-in_default g c =

@@ -8,7 +8,7 @@ use Rattle.m4_engine.proofs.Whole.{early_so, late_so, well_so, sized_so, last_so
 use Rattle.m4_engine.proofs.Starts.{close_left}
 use Rattle.m4_engine.proofs.Closing.{Closes, closes_so, finish_closes, freeze_closes, uses_so}
 use Rattle.m4_engine.proofs.RunReached.{early_reached, late_reached, closed_reached}
-use Rattle.m4_engine.proofs.Missed.{exited_late, same_stop}
+use Rattle.m4_engine.proofs.Missed.{exited_late, passed_on, same_stop}
 use Rattle.m4_engine.proofs.Ordering.{same_breaks, sources_step, end_step}
 use Rattle.m4_engine.proofs.run.read_to_end.Goals.{then-freezes, else-freezes}
 use Rattle.m4_engine.proofs.run.read_to_end.Goals as goal
@@ -25,10 +25,11 @@ pub returns-in_err-read_sources-clause-writes : goal.returns-in_err-read_sources
 returns-in_err-read_sources-clause-writes g c = λ ss s. record {
   gives = early_so c.args.freezes ss (after_sources c.args.session.now.limits ss (progress_of c.args.session.now))
       c.args.session.now c.read_sources.new.session _ c.in_err-read_sources.field-0.0 c.read_sources.result
-      c.from_residual.result (search rules) (search rules) c.read_sources.ensures.left.0 refl
+      c.from_residual.result c.in_err-read_sources.was
+      (passed_on _ _ c.from_residual.ensures) c.read_sources.ensures.left.0 refl
       (c.read_sources.ensures.writes ss s).goes;
   order = same_breaks Unit Bool c.in_err-read_sources.field-0.0 c.read_sources.result c.from_residual.result _ _
-      (search rules) (search rules) (sources_step c.args.session.now.limits ss _ _) (c.read_sources.ensures.writes ss s).order;
+      c.in_err-read_sources.was (passed_on _ _ c.from_residual.ensures) (sources_step c.args.session.now.limits ss _ _) (c.read_sources.ensures.writes ss s).order;
 }
 
 pub returns-in_err-read_sources-clause-frozen : goal.returns-in_err-read_sources-clause-frozen
@@ -43,10 +44,12 @@ pub returns-in_err-read_sources-clause-reads : goal.returns-in_err-read_sources-
 returns-in_err-read_sources-clause-reads g c = record {
   reached = λ n. early_reached g.R.ByteSource.script c.args.sources.now
       c.read_sources.new.sources c.args.session.now c.read_sources.new.session _ c.in_err-read_sources.field-0.0
-      c.read_sources.result c.from_residual.result (search rules) (search rules) c.read_sources.ensures.left.0
+      c.read_sources.result c.from_residual.result c.in_err-read_sources.was
+      (passed_on _ _ c.from_residual.ensures) c.read_sources.ensures.left.0
       c.read_sources.ensures.reads.reached;
   failed = same_fails g.R.ByteSource.script g.R.ByteSource.failures c.args.sources.now c.read_sources.new.sources
-      c.in_err-read_sources.field-0.0 c.read_sources.result c.from_residual.result (search rules) (search rules)
+      c.in_err-read_sources.field-0.0 c.read_sources.result c.from_residual.result c.in_err-read_sources.was
+      (passed_on _ _ c.from_residual.ensures)
       c.read_sources.ensures.reads.failed;
   taken = search rules;
 }
@@ -56,14 +59,15 @@ returns-in_err-read_sources-clause-marks g c = record {
   read = search rules;
   exited = λ code e n.
       c.read_sources.ensures.marks.exited code
-      (same_stop c.in_err-read_sources.field-0.0 _ c.read_sources.result c.from_residual.result (search rules)
-      (search rules) e) n;
+      (same_stop c.in_err-read_sources.field-0.0 _ c.read_sources.result c.from_residual.result c.in_err-read_sources.was
+      (passed_on _ _ c.from_residual.ensures) e) n;
 }
 
 -- the end of the run is broken off
 pub returns-in_err-closed : goal.returns-in_err-closed
 returns-in_err-closed g c =
-    given (c.from_residual-in_err-closed.result ≡ Err c.in_err-closed.field-0.0) (search rules) (λ broken.
+    given (c.from_residual-in_err-closed.result ≡ Err c.in_err-closed.field-0.0)
+    (passed_on _ _ c.from_residual-in_err-closed.ensures) (λ broken.
     given (Closes g.O.ByteSink.contents g.M.ByteSink.contents g.Z.ByteSink.contents g.O.ByteSink.failures g.M.ByteSink.failures g.Z.ByteSink.failures
     c.args.freezes c.read_sources.new.session c.read_sources.new.out c.read_sources.new.messages c.args.freeze_to.now
     c.if-freezes.session c.if-freezes.out c.if-freezes.messages c.if-freezes.freeze_to c.if-freezes.closed) (elim c.if-freezes.branch [

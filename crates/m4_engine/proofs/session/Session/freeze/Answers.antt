@@ -4,6 +4,7 @@ use Rattle.m4_engine.specs.Session.{IsOpen}
 use Rattle.m4_engine.proofs.Sessions.{froze, freeze_began, freeze_broke}
 use Rattle.m4_engine.proofs.Wrapping.{freeze_then, freeze_stops, gone_on, uses_then, uses_none, uses_without_memory}
 use Rattle.m4_engine.proofs.Begins.{nothing_begun}
+use Rattle.m4_engine.proofs.Missed.{passed_on}
 use Rattle.m4_engine.proofs.Ordering.{any_breaks, same_breaks, rounds_end, end_breaks}
 use Rattle.m4_engine.proofs.session.Session.freeze.Goals as goal
 
@@ -35,8 +36,8 @@ returns-clause-write g c = search rules
 
 pub returns-in_err-read_saved-clause-order : goal.returns-in_err-read_saved-clause-order
 returns-in_err-read_saved-clause-order g c =
-    same_breaks Unit Unit c.in_err-read_saved.field-0.0 c.read_saved.result c.from_residual.result _ _ (search rules)
-    (search rules) (rounds_end c.args.self.now.limits _ _) c.read_saved.ensures.order
+    same_breaks Unit Unit c.in_err-read_saved.field-0.0 c.read_saved.result c.from_residual.result _ _ c.in_err-read_saved.was
+    (passed_on _ _ c.from_residual.ensures) (rounds_end c.args.self.now.limits _ _) c.read_saved.ensures.order
 
 pub returns-in-Err-Write-clause-order : goal.returns-in-Err-Write-clause-order
 returns-in-Err-Write-clause-order g c =

@@ -4,6 +4,7 @@ use Rattle.m4_engine.specs.declared.ending.Cause.TheVariants as causes
 use Rattle.m4_engine.specs.declared.stop.Stop.TheVariants as stops
 use Rattle.m4_engine.specs.Writers.{writers}
 use Rattle.m4_engine.proofs.Ordering.{any_breaks, round_told, silent_round, some_saved}
+use Rattle.m4_engine.proofs.Missed.{passed_on}
 use Rattle.m4_engine.proofs.Sessions.{round_gives, round_lacked}
 use Rattle.m4_engine.proofs.Wrapping.{none_yet, one_round, all_rounds, round_stops, fewer_rounds}
 use Rattle.m4_engine.proofs.Wrapping.{round_step}
@@ -50,7 +51,7 @@ rounds-preserved g c =
 pub returns-in_err-settle-clause-goes : goal.returns-in_err-settle-clause-goes
 returns-in_err-settle-clause-goes g c =
     round_stops c.args.self.now c.rounds.self c.settle-in-rounds.new.self _ _ _ _ _ _ c.in_err-settle.field-0.0
-    c.settle-in-rounds.result c.from_residual.result (search rules) (search rules) c.requires
+    c.settle-in-rounds.result c.from_residual.result c.in_err-settle.was (passed_on _ _ c.from_residual.ensures) c.requires
     c.rounds.invariant.runs c.rounds.invariant.live (search rules)
     (round_gives c.rounds.self c.settle-in-rounds.new.self c.self.inside.machine c.take_saved.new.self
     c.expand-ended.new.self c.come_to_rest.new.self c.self.inside.any_missing c.self.inside.over c.self.inside.finished
@@ -61,7 +62,7 @@ returns-in_err-settle-clause-goes g c =
 pub returns-in_err-settle-clause-order : goal.returns-in_err-settle-clause-order
 returns-in_err-settle-clause-order g c =
     round_step c.args.self.now c.rounds.self _ _ _ _ _ _ c.in_err-settle.field-0.0 c.settle-in-rounds.result
-    c.from_residual.result (search rules) (search rules) c.rounds.invariant.runs
+    c.from_residual.result c.in_err-settle.was (passed_on _ _ c.from_residual.ensures) c.rounds.invariant.runs
     (round_told c.rounds.self c.self.inside.machine c.take_saved.new.self
     c.self.inside.any_missing c.self.inside.over c.self.inside.finished c.in-Ok.text c.in-Ok-wrapped.input _ _ _
     c.expand-ended.result c.settle-in-rounds.result (search rules) (search rules) (some_saved c.rounds.self.saved (search rules))
