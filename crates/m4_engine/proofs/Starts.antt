@@ -33,7 +33,8 @@ use Rattle.m4_engine.specs.RunSources.{AllPairs, is_sound, ReadersFailBy, Descri
 use Rattle.m4_engine.specs.RunSources.{FrozenFailsBy, IsUnrefused}
 use Rattle.m4_engine.specs.WholeRun.{WroteAll, WrotePrefix, GivesBy, RefusedBy, HasFrozen, FrozenBegan, FrozenBy}
 use Rattle.m4_engine.specs.WholeRun.{FrozenLast, RunGives, NothingIsDone}
-use Rattle.m4_engine.specs.Writers.{Contents, Three, writers, ByCause, NoneOfThree, OneOfThree, IsSpared, ThreeFailBy, Spares}
+use Rattle.m4_engine.specs.Writers.{Contents, Three, writers, ByCause, NoneOfThree, OneOfThree, IsSpared}
+use Rattle.m4_engine.specs.Writers.{ThreeFailBy, Spares}
 use Rattle.m4_engine.proofs.Begins.{nothing_begun, begun_after}
 use Rattle.m4_engine.proofs.OnePass.{over_sources, over_wraps}
 use Rattle.m4_engine.proofs.GoingOn.{after, sources_after, wraps_after}
@@ -450,11 +451,14 @@ pub begun_wrote : (s : SessionState) (st : Result SessionState Stop) (n : ℕ) (
     (old mid new reported reported' frozen frozen' : ℕ) (w : Three (Option (List ℕ))) → st ≡ Ok s
     → d ≡ ending_by n r → MessageWriteFails st old mid
     → ThreeFail r (record { two = writers mid new reported reported'; frozen_old = frozen; frozen_new = frozen' }) w
-    → ThreeFailBy d.cause (record { two = writers old new reported reported'; frozen_old = frozen; frozen_new = frozen' }) w
+    → ThreeFailBy d.cause
+    (record { two = writers old new reported reported'; frozen_old = frozen; frozen_new = frozen' }) w
 begun_wrote s st n r d old mid new reported reported' frozen frozen' w i j m h =
-    let f : ℕ → Three ℕ = λ x. record { two = writers x new reported reported'; frozen_old = frozen; frozen_new = frozen' } in
+    let f : ℕ → Three ℕ =
+    λ x. record { two = writers x new reported reported'; frozen_old = frozen; frozen_new = frozen' } in
     subst (λ (y : Ending). ThreeFailBy y.cause (f old) w) (sym j)
-    (by_answer n r _ _ (subst (λ (x : ℕ). ThreeFail r (f x) w) (subst (λ (y : Result SessionState Stop). MessageWriteFails y old mid) i m) h))
+    (by_answer n r _ _ (subst (λ (x : ℕ). ThreeFail r (f x) w)
+    (subst (λ (y : Result SessionState Stop). MessageWriteFails y old mid) i m) h))
 
 pub spared_answer : (cause : Cause) (two two' : Contents) (frozen frozen' : Option (List ℕ))
     → Spares cause (record { two = two; frozen_old = frozen; frozen_new = frozen' })

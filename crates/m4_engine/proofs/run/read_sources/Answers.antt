@@ -157,7 +157,8 @@ returns-in_err-answer g c =
       )
     ] in
     rw k.1 (record {
-      left = stopped_by (λ r. IsLeft c.match-source.session r × OnOk r (IsOpen c.match-source.session)) c.in_err-answer.field-0.0
+      left = stopped_by (λ r. IsLeft c.match-source.session r × OnOk r (IsOpen c.match-source.session))
+          c.in_err-answer.field-0.0
           c.match-source.answer c.from_residual.result c.in_err-answer.was broken k.2.left;
       writes = λ ss e.
           let t = item g.R.ByteSource.script c.sources.source-index c.sources.sources c.args.sources.now
@@ -175,7 +176,8 @@ returns-in_err-answer g c =
       reads = record {
         reached = stops_so g.R.ByteSource.script c.sources.source-index c.sources.sources
             c.args.sources.now c.source-item.result k.0 c.args.session.now c.sources.session c.match-source.session
-            _ _ _ _ _ _ c.sources.invariant.1 inside c.sources.invariant.7 c.in_err-answer.field-0.0 c.match-source.answer
+            _ _ _ _ _ _ c.sources.invariant.1 inside c.sources.invariant.7 c.in_err-answer.field-0.0
+            c.match-source.answer
             c.from_residual.result c.in_err-answer.was broken k.2.reads.reached;
         failed = sources_fail g.R.ByteSource.script g.R.ByteSource.failures c.sources.source-index c.sources.sources
             c.args.sources.now c.source-item.result k.0 c.in_err-answer.field-0.0 c.match-source.answer
@@ -191,11 +193,13 @@ returns-in_err-answer g c =
             exited_there c.sources.source-index c.sources.sources c.args.sources.now c.source-item.result k.0
             c.sources.session.any_missing c.match-source.session.any_missing _ c.sources.invariant.1 inside
             c.sources.invariant.8
-            (k.2.marks.exited code (same_stop c.in_err-answer.field-0.0 _ c.match-source.answer c.from_residual.result c.in_err-answer.was broken e)) n;
+            (k.2.marks.exited code (same_stop c.in_err-answer.field-0.0 _ c.match-source.answer c.from_residual.result
+            c.in_err-answer.was broken e)) n;
       };
-      write = stopped_by (λ r. WriteFails r (both g.O.ByteSink.failures g.M.ByteSink.failures c.args.out.now c.match-source.out
-          c.args.messages.now c.match-source.messages)) c.in_err-answer.field-0.0 c.match-source.answer c.from_residual.result
-          c.in_err-answer.was broken (fails_on c.match-source.answer _ _ _ _ _ _ c.sources.invariant.2.0 c.sources.invariant.2.1 k.2.write);
+      write = stopped_by (λ r. WriteFails r (both g.O.ByteSink.failures g.M.ByteSink.failures c.args.out.now
+          c.match-source.out c.args.messages.now c.match-source.messages)) c.in_err-answer.field-0.0 c.match-source.answer
+          c.from_residual.result c.in_err-answer.was broken
+          (fails_on c.match-source.answer _ _ _ _ _ _ c.sources.invariant.2.0 c.sources.invariant.2.1 k.2.write);
     })
 
 pub returns-in_default : goal.returns-in_default
@@ -227,7 +231,8 @@ returns-in_default g c =
       reads = record {
         reached = stops_so g.R.ByteSource.script c.sources.source-index c.sources.sources
             c.args.sources.now c.source-item.result (sources.Opened c.in-Opened.name c.in-Opened.reader) c.args.session.now c.sources.session c.settle.new.self
-            _ _ _ _ _ _ c.sources.invariant.1 inside c.sources.invariant.7 (stops.Ended causes.OutOfMemory) c.settle.result
+            _ _ _ _ _ _ c.sources.invariant.1 inside c.sources.invariant.7 (stops.Ended causes.OutOfMemory)
+            c.settle.result
             c.settle.result (search rules) (search rules) k.reads.reached;
         failed = sources_fail g.R.ByteSource.script g.R.ByteSource.failures c.sources.source-index c.sources.sources
             c.args.sources.now c.source-item.result (sources.Opened c.in-Opened.name c.in-Opened.reader) (stops.Ended causes.OutOfMemory) c.settle.result

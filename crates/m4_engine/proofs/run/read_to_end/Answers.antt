@@ -14,6 +14,7 @@ use Rattle.m4_engine.proofs.run.read_to_end.Goals.{then-freezes, else-freezes}
 use Rattle.m4_engine.proofs.run.read_to_end.Goals as goal
 use Rattle.m4_engine.specs.SessionSteps.{ending_by}
 
+-- an answer that is no error
 went_well : {A : Type 0} {x : A} {e : Stop} → Ok x ≡ Err e → ⊥
 went_well h = cc
 
@@ -29,7 +30,8 @@ returns-in_err-read_sources-clause-writes g c = λ ss s. record {
       (passed_on _ _ c.from_residual.ensures) c.read_sources.ensures.left.0 refl
       (c.read_sources.ensures.writes ss s).goes;
   order = same_breaks Unit Bool c.in_err-read_sources.field-0.0 c.read_sources.result c.from_residual.result _ _
-      c.in_err-read_sources.was (passed_on _ _ c.from_residual.ensures) (sources_step c.args.session.now.limits ss _ _) (c.read_sources.ensures.writes ss s).order;
+      c.in_err-read_sources.was (passed_on _ _ c.from_residual.ensures)
+      (sources_step c.args.session.now.limits ss _ _) (c.read_sources.ensures.writes ss s).order;
 }
 
 pub returns-in_err-read_sources-clause-frozen : goal.returns-in_err-read_sources-clause-frozen
@@ -59,8 +61,8 @@ returns-in_err-read_sources-clause-marks g c = record {
   read = search rules;
   exited = λ code e n.
       c.read_sources.ensures.marks.exited code
-      (same_stop c.in_err-read_sources.field-0.0 _ c.read_sources.result c.from_residual.result c.in_err-read_sources.was
-      (passed_on _ _ c.from_residual.ensures) e) n;
+      (same_stop c.in_err-read_sources.field-0.0 _ c.read_sources.result c.from_residual.result
+      c.in_err-read_sources.was (passed_on _ _ c.from_residual.ensures) e) n;
 }
 
 -- the end of the run is broken off
@@ -68,9 +70,11 @@ pub returns-in_err-closed : goal.returns-in_err-closed
 returns-in_err-closed g c =
     given (c.from_residual-in_err-closed.result ≡ Err c.in_err-closed.field-0.0)
     (passed_on _ _ c.from_residual-in_err-closed.ensures) (λ broken.
-    given (Closes g.O.ByteSink.contents g.M.ByteSink.contents g.Z.ByteSink.contents g.O.ByteSink.failures g.M.ByteSink.failures g.Z.ByteSink.failures
+    given (Closes g.O.ByteSink.contents g.M.ByteSink.contents g.Z.ByteSink.contents g.O.ByteSink.failures
+    g.M.ByteSink.failures g.Z.ByteSink.failures
     c.args.freezes c.read_sources.new.session c.read_sources.new.out c.read_sources.new.messages c.args.freeze_to.now
-    c.if-freezes.session c.if-freezes.out c.if-freezes.messages c.if-freezes.freeze_to c.if-freezes.closed) (elim c.if-freezes.branch [
+    c.if-freezes.session c.if-freezes.out c.if-freezes.messages c.if-freezes.freeze_to c.if-freezes.closed)
+    (elim c.if-freezes.branch [
       | then-freezes w ↦ closes_so
           g.O.ByteSink.contents g.M.ByteSink.contents g.Z.ByteSink.contents g.O.ByteSink.failures g.M.ByteSink.failures g.Z.ByteSink.failures
           c.args.freezes c.read_sources.new.session c.read_sources.new.out c.read_sources.new.messages c.args.freeze_to.now
@@ -81,7 +85,8 @@ returns-in_err-closed g c =
           (freeze_closes
           g.O.ByteSink.contents g.M.ByteSink.contents g.Z.ByteSink.contents g.O.ByteSink.failures g.M.ByteSink.failures g.Z.ByteSink.failures
           c.args.freezes c.read_sources.new.session c.read_sources.new.out c.read_sources.new.messages c.args.freeze_to.now
-          w.freeze-closed.new.self w.freeze-closed.new.out w.freeze-closed.new.messages w.freeze-closed.new.freeze_to w.freeze-closed.result w.if-freezes.true
+          w.freeze-closed.new.self w.freeze-closed.new.out w.freeze-closed.new.messages w.freeze-closed.new.freeze_to
+          w.freeze-closed.result w.if-freezes.true
           w.freeze-closed.ensures.gives w.freeze-closed.ensures.order w.freeze-closed.ensures.any_missing
           w.freeze-closed.ensures.write w.freeze-closed.ensures.last)
       | else-freezes w ↦ closes_so
@@ -94,7 +99,8 @@ returns-in_err-closed g c =
           (finish_closes
           g.O.ByteSink.contents g.M.ByteSink.contents g.Z.ByteSink.contents g.O.ByteSink.failures g.M.ByteSink.failures g.Z.ByteSink.failures
           c.args.freezes c.read_sources.new.session c.read_sources.new.out c.read_sources.new.messages c.args.freeze_to.now
-          w.finish-closed.new.self w.finish-closed.new.out w.finish-closed.new.messages w.finish-closed.result w.if-freezes.false
+          w.finish-closed.new.self w.finish-closed.new.out w.finish-closed.new.messages w.finish-closed.result
+          w.if-freezes.false
           w.finish-closed.ensures.gives w.finish-closed.ensures.order w.finish-closed.ensures.any_missing w.finish-closed.ensures.write)
     ]) (λ k. record {
       left = close_left c.args.freezes c.read_sources.new.session c.if-freezes.session _ c.in_err-closed.field-0.0
@@ -104,9 +110,11 @@ returns-in_err-closed g c =
         gives = late_so c.args.freezes c.args.session.now.limits ss
             (after_sources c.args.session.now.limits ss (progress_of c.args.session.now)) c.args.session.now
             c.read_sources.new.session c.if-freezes.session _ _ _ _ _ _ _ _ refl (c.in_ok-read_sources.ensures.writes ss s).goes
-            c.in_err-closed.field-0.0 c.if-freezes.closed c.from_residual-in_err-closed.result c.in_err-closed.was broken
+            c.in_err-closed.field-0.0 c.if-freezes.closed c.from_residual-in_err-closed.result
+            c.in_err-closed.was broken
             c.in_ok-read_sources.ensures.left.1 k.gives;
-        order = same_breaks Unit Bool c.in_err-closed.field-0.0 c.if-freezes.closed c.from_residual-in_err-closed.result _ _ c.in_err-closed.was broken
+        order = same_breaks Unit Bool c.in_err-closed.field-0.0 c.if-freezes.closed
+            c.from_residual-in_err-closed.result _ _ c.in_err-closed.was broken
             (end_step ss c.args.session.now c.read_sources.new.session _ _ _ _ _ _ (c.in_ok-read_sources.ensures.writes ss s).goes) k.order;
       };
       frozen = λ ss s. record {
@@ -124,7 +132,8 @@ returns-in_err-closed g c =
             c.if-freezes.closed c.from_residual-in_err-closed.result refl c.in_err-closed.was broken k.gives;
         failed = close_sound g.R.ByteSource.script g.R.ByteSource.failures c.args.sources.now
             c.read_sources.new.sources c.args.freezes c.read_sources.new.session c.if-freezes.session _
-            c.in_err-closed.field-0.0 c.if-freezes.closed c.from_residual-in_err-closed.result c.in_err-closed.was broken
+            c.in_err-closed.field-0.0 c.if-freezes.closed c.from_residual-in_err-closed.result
+            c.in_err-closed.was broken
             k.gives c.in_ok-read_sources.ensures.reads.failed;
         taken = search rules;
       };
@@ -143,9 +152,11 @@ returns-in_err-closed g c =
 -- the run came to its end
 pub returns : goal.returns
 returns g c =
-    given (Closes g.O.ByteSink.contents g.M.ByteSink.contents g.Z.ByteSink.contents g.O.ByteSink.failures g.M.ByteSink.failures g.Z.ByteSink.failures
+    given (Closes g.O.ByteSink.contents g.M.ByteSink.contents g.Z.ByteSink.contents g.O.ByteSink.failures
+    g.M.ByteSink.failures g.Z.ByteSink.failures
     c.args.freezes c.read_sources.new.session c.read_sources.new.out c.read_sources.new.messages c.args.freeze_to.now
-    c.if-freezes.session c.if-freezes.out c.if-freezes.messages c.if-freezes.freeze_to (Ok tt)) (elim c.if-freezes.branch [
+    c.if-freezes.session c.if-freezes.out c.if-freezes.messages c.if-freezes.freeze_to (Ok tt))
+    (elim c.if-freezes.branch [
       | then-freezes w ↦ closes_so
           g.O.ByteSink.contents g.M.ByteSink.contents g.Z.ByteSink.contents g.O.ByteSink.failures g.M.ByteSink.failures g.Z.ByteSink.failures
           c.args.freezes c.read_sources.new.session c.read_sources.new.out c.read_sources.new.messages c.args.freeze_to.now
@@ -156,7 +167,8 @@ returns g c =
           (freeze_closes
           g.O.ByteSink.contents g.M.ByteSink.contents g.Z.ByteSink.contents g.O.ByteSink.failures g.M.ByteSink.failures g.Z.ByteSink.failures
           c.args.freezes c.read_sources.new.session c.read_sources.new.out c.read_sources.new.messages c.args.freeze_to.now
-          w.freeze-closed.new.self w.freeze-closed.new.out w.freeze-closed.new.messages w.freeze-closed.new.freeze_to w.freeze-closed.result w.if-freezes.true
+          w.freeze-closed.new.self w.freeze-closed.new.out w.freeze-closed.new.messages w.freeze-closed.new.freeze_to
+          w.freeze-closed.result w.if-freezes.true
           w.freeze-closed.ensures.gives w.freeze-closed.ensures.order w.freeze-closed.ensures.any_missing
           w.freeze-closed.ensures.write w.freeze-closed.ensures.last)
       | else-freezes w ↦ closes_so
@@ -169,7 +181,8 @@ returns g c =
           (finish_closes
           g.O.ByteSink.contents g.M.ByteSink.contents g.Z.ByteSink.contents g.O.ByteSink.failures g.M.ByteSink.failures g.Z.ByteSink.failures
           c.args.freezes c.read_sources.new.session c.read_sources.new.out c.read_sources.new.messages c.args.freeze_to.now
-          w.finish-closed.new.self w.finish-closed.new.out w.finish-closed.new.messages w.finish-closed.result w.if-freezes.false
+          w.finish-closed.new.self w.finish-closed.new.out w.finish-closed.new.messages w.finish-closed.result
+          w.if-freezes.false
           w.finish-closed.ensures.gives w.finish-closed.ensures.order w.finish-closed.ensures.any_missing w.finish-closed.ensures.write)
     ]) (λ k. record {
       left = search rules;

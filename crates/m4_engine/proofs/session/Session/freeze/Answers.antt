@@ -36,7 +36,8 @@ returns-clause-write g c = search rules
 
 pub returns-in_err-read_saved-clause-order : goal.returns-in_err-read_saved-clause-order
 returns-in_err-read_saved-clause-order g c =
-    same_breaks Unit Unit c.in_err-read_saved.field-0.0 c.read_saved.result c.from_residual.result _ _ c.in_err-read_saved.was
+    same_breaks Unit Unit c.in_err-read_saved.field-0.0 c.read_saved.result c.from_residual.result _ _
+    c.in_err-read_saved.was
     (passed_on _ _ c.from_residual.ensures) (rounds_end c.args.self.now.limits _ _) c.read_saved.ensures.order
 
 pub returns-in-Err-Write-clause-order : goal.returns-in-Err-Write-clause-order

@@ -51,7 +51,8 @@ rounds-preserved g c =
 pub returns-in_err-settle-clause-goes : goal.returns-in_err-settle-clause-goes
 returns-in_err-settle-clause-goes g c =
     round_stops c.args.self.now c.rounds.self c.settle-in-rounds.new.self _ _ _ _ _ _ c.in_err-settle.field-0.0
-    c.settle-in-rounds.result c.from_residual.result c.in_err-settle.was (passed_on _ _ c.from_residual.ensures) c.requires
+    c.settle-in-rounds.result c.from_residual.result c.in_err-settle.was (passed_on _ _ c.from_residual.ensures)
+    c.requires
     c.rounds.invariant.runs c.rounds.invariant.live (search rules)
     (round_gives c.rounds.self c.settle-in-rounds.new.self c.self.inside.machine c.take_saved.new.self
     c.expand-ended.new.self c.come_to_rest.new.self c.self.inside.any_missing c.self.inside.over c.self.inside.finished
