@@ -197,8 +197,8 @@ returns-in_err-answer g c =
             c.in_err-answer.was broken e)) n;
       };
       write = stopped_by (λ r. WriteFails r (both g.O.ByteSink.failures g.M.ByteSink.failures c.args.out.now
-          c.match-source.out c.args.messages.now c.match-source.messages)) c.in_err-answer.field-0.0 c.match-source.answer
-          c.from_residual.result c.in_err-answer.was broken
+          c.match-source.out c.args.messages.now c.match-source.messages)) c.in_err-answer.field-0.0
+          c.match-source.answer c.from_residual.result c.in_err-answer.was broken
           (fails_on c.match-source.answer _ _ _ _ _ _ c.sources.invariant.2.0 c.sources.invariant.2.1 k.2.write);
     })
 

@@ -121,7 +121,8 @@ returns g c =
           _ _ _ _ _ _ _
           (three g.Z.ByteSink.contents
           (both g.O.ByteSink.contents g.M.ByteSink.contents c.args.out.now c.read_to_end-answer.new.out
-          c.args.messages.now c.read_to_end-answer.new.messages) c.args.freeze_to.now c.read_to_end-answer.new.freeze_to)
+          c.args.messages.now c.read_to_end-answer.new.messages)
+          c.args.freeze_to.now c.read_to_end-answer.new.freeze_to)
           c.in-Ok.is c.ending.ensures b.write c.read_to_end-answer.ensures.writers.failed;
       taken = c.read_to_end-answer.ensures.reads.taken;
       order = λ file t ss s. run_told c.args.options (start_of c.args.options.prefix file) ss c.in-Ok.session
