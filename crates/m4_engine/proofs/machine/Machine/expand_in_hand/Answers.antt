@@ -324,12 +324,16 @@ returns-in_default-turn-clause-counted g c = lack_counted _ _ _ c.give_out-in_de
 
 -- no writer failed
 pub returns-in-NeedsMore-clause-counted : goal.returns-in-NeedsMore-clause-counted
-returns-in-NeedsMore-clause-counted g c = (c.in_default-flush.ensures.counted.0 ∙ c.turns.invariant.out,
-    c.in_default-flush.ensures.counted.1 ∙ c.turns.invariant.reported)
+returns-in-NeedsMore-clause-counted g c = (
+  c.in_default-flush.ensures.counted.0 ∙ c.turns.invariant.out,
+  c.in_default-flush.ensures.counted.1 ∙ c.turns.invariant.reported,
+)
 
 pub returns-then-not-skip_in_hand-2-clause-counted : goal.returns-then-not-skip_in_hand-2-clause-counted
-returns-then-not-skip_in_hand-2-clause-counted g c = (c.in_default-flush.ensures.counted.0 ∙ c.turns.invariant.out,
-    c.in_default-flush.ensures.counted.1 ∙ c.turns.invariant.reported)
+returns-then-not-skip_in_hand-2-clause-counted g c = (
+  c.in_default-flush.ensures.counted.0 ∙ c.turns.invariant.out,
+  c.in_default-flush.ensures.counted.1 ∙ c.turns.invariant.reported,
+)
 
 -- no turn ends a run by a write fault
 none_fails : (end : TurnEnd) (f : Failures) → NoneFailed f → FailsBy (cause_of_end end) f
@@ -341,8 +345,10 @@ returns-in-Ends-clause-counted g c =
     let f : Failures = both g.O.ByteSink.failures g.M.ByteSink.failures c.args.out.now c.flush.new.out
     c.args.messages.now c.flush.new.messages in
     subst (λ (x : Cause). FailsBy x f) (sym c.cause.ensures)
-    (none_fails c.in-Ends.end f (c.in_default-flush.ensures.counted.0 ∙ c.turns.invariant.out,
-    c.in_default-flush.ensures.counted.1 ∙ c.turns.invariant.reported))
+    (none_fails c.in-Ends.end f (
+      c.in_default-flush.ensures.counted.0 ∙ c.turns.invariant.out,
+      c.in_default-flush.ensures.counted.1 ∙ c.turns.invariant.reported,
+    ))
 
 -- one did
 pub returns-in-Err-flush-clause-counted : goal.returns-in-Err-flush-clause-counted

@@ -43,10 +43,11 @@ returns-in_err-write_all-2-clause-order g c =
 pub returns-in_err-write_all-2-clause-begun : goal.returns-in_err-write_all-2-clause-begun
 returns-in_err-write_all-2-clause-begun g c =
     let all : c.deref-2.result.now ≡ c.args.self.now.messages = search rules in
-    in_any c.from_residual-in_err-write_all-2.result
-    (begun_front _ _ c.if-is_empty.first c.args.self.now.output (all_begun _ _ _ (search rules)),
-    subst (HasBegun (g.M.ByteSink.contents c.args.messages.now) (g.M.ByteSink.contents c.write_all-2.new.writer))
-    all c.in_err-write_all-2.ensures.puts)
+    in_any c.from_residual-in_err-write_all-2.result (
+      begun_front _ _ c.if-is_empty.first c.args.self.now.output (all_begun _ _ _ (search rules)),
+      subst (HasBegun (g.M.ByteSink.contents c.args.messages.now) (g.M.ByteSink.contents c.write_all-2.new.writer))
+          all c.in_err-write_all-2.ensures.puts,
+    )
 
 pub returns-in_err-write_all-3-clause-order : goal.returns-in_err-write_all-3-clause-order
 returns-in_err-write_all-3-clause-order g c =
