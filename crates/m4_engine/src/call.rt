@@ -26,6 +26,7 @@ use std::marker::Model;
 /// A call whose list is not closed yet: its definition, name and place as they were when its name was read, the
 /// complete arguments, and the part of the next one that was read. So no open call changes if a definition does. The
 /// first `count` arguments are complete. The others are of earlier calls, and are kept for their memory.
+#[derive(Drop)]
 pub struct OpenCall {
     definition: Def,
     name: Bytes,
@@ -37,24 +38,6 @@ pub struct OpenCall {
     bytes: TextBuffer,
     tokens: Vec<Def>,
     is_large: bool,
-}
-
-// Written out so that a caller's proof contains one call, not the drop of each field.
-impl Drop for OpenCall {
-    fn drop(self) {
-        let OpenCall {
-            definition: _definition,
-            name: _name,
-            place: _place,
-            args: _args,
-            count: _count,
-            parentheses: _parentheses,
-            begun: _begun,
-            bytes: _bytes,
-            tokens: _tokens,
-            is_large: _is_large,
-        } = self;
-    }
 }
 
 impl Model for OpenCall {
